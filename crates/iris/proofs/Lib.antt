@@ -1,0 +1,16 @@
+mod Lists
+mod LineForms
+mod ReadSoFar
+mod Results
+mod Fillings
+mod Tables
+mod Steps
+mod Readings
+mod Stretches
+mod Sessions
+mod Loops
+mod Runs
+mod Refusals
+mod Ends
+mod Sources
+mod Keys

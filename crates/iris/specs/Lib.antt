@@ -1,0 +1,14 @@
+pub mod Registers
+pub mod Shape
+pub mod Agrees
+pub mod Answers
+pub mod Lines
+pub mod Outside
+pub mod Notes
+pub mod Said
+pub mod Session
+pub mod Words
+pub mod Reading
+pub mod Memory
+pub mod Top
+pub mod Run

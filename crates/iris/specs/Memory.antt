@@ -1,0 +1,55 @@
+-- What a contract sees of a source and of a sink in memory.
+use Rattle.std.specs.Prelude.{◌≡◌, ℕ, ◌+◌, ◌-◌, ◌^◌, ◌==◌, ◌||◌, ◌++◌, nat_lt, min, Bool, true, false, List, length, drop, Result, Ok, IsErr, if◌then◌else◌}
+use Rattle.std.specs.List.{list_any}
+
+-- Which calls are to fail, counted from 1, and how many calls and faults there were.
+pub record Tally : Type 0 where
+  pub failing : List ℕ
+  pub calls : ℕ
+  pub faults : ℕ
+
+-- The bytes left, and how many a read gives at most.
+pub record Tape : Type 0 where
+  pub left : List ℕ
+  pub most : ℕ
+  pub tally : Tally
+
+-- The bytes written, and how many there is room for in all.
+pub record Sheet : Type 0 where
+  pub written : List ℕ
+  pub room : ℕ
+  pub tally : Tally
+
+-- one more, up to the last u64
+abbrev pub counted : ℕ → ℕ
+counted n = min (n + 1) (2 ^ 64 - 1)
+
+-- whether the next call is one that is to fail
+abbrev pub fails_next : Tally → Bool
+fails_next tally = list_any (λ n. n == counted tally.calls) tally.failing
+
+-- the tally after a call that failed or not
+abbrev pub tallied : Bool → Tally → Tally
+tallied failed tally = record tally { calls = counted tally.calls; faults = (if failed then counted tally.faults else tally.faults) }
+
+-- how many bytes the next read into a slice of this length takes
+abbrev pub taken_next : Tape → ℕ → ℕ
+taken_next tape room = if fails_next tape.tally then 0 else min room (min tape.most (length tape.left))
+
+-- the tape after the next read into a slice of this length
+abbrev pub after_read : Tape → ℕ → Tape
+after_read tape room = record tape { left = drop (taken_next tape room) tape.left; tally = tallied (fails_next tape.tally) tape.tally }
+
+-- whether the next write fails: it is to fail, or doesn't fit what is left
+abbrev pub write_fails : Sheet → List ℕ → Bool
+write_fails sheet piece = fails_next sheet.tally || nat_lt sheet.room (length sheet.written + length piece)
+
+-- the sheet after the next write; one that fails writes nothing
+abbrev pub after_write : Sheet → List ℕ → Sheet
+after_write sheet piece = let failed = write_fails sheet piece in
+    record sheet { written = (if failed then sheet.written else sheet.written ++ piece); tally = tallied failed sheet.tally }
+
+-- what a call answers that fails or not, and otherwise gives a
+abbrev pub Answers : {A E : Type 0} → Bool → A → Result A E → Type 0
+Answers true a result = IsErr result
+Answers false a result = result ≡ Ok a

@@ -1,0 +1,4 @@
+pub mod Pasts
+pub mod Names
+pub mod Records
+pub mod Growth

@@ -1,0 +1,2 @@
+mod KeyBlocks
+mod Pieces

@@ -1,0 +1,9 @@
+pub mod Fields
+pub mod Rules
+pub mod Nodes
+pub mod Spelling
+pub mod Reading
+pub mod Tests
+pub mod Views
+pub mod Whole
+pub mod Laws

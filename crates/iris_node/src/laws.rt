@@ -1,0 +1,13 @@
+//! Laws of records.
+
+ghost use Rattle.iris_node.specs.Laws.{OneSpelling, Sizes};
+
+/// Two nodes of one spelling are one node.
+pub fn one_spelling()
+    ensures { OneSpelling }
+{}
+
+/// An entry's record has at most 413 bytes, and a part's at most 81.
+pub fn sizes()
+    ensures { Sizes }
+{}

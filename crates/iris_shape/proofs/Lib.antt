@@ -1,0 +1,9 @@
+pub mod FoldProofs
+pub mod Lists
+pub mod Treaps
+pub mod Frames
+pub mod Orders
+pub mod LawProofs
+pub mod Orderly
+pub mod Spines
+pub mod Ways

@@ -1,0 +1,5 @@
+use Rattle.iris_shape.proofs.FoldProofs as lemmas
+use Rattle.iris_shape.proofs.laws.folded_outside.Goals as goal
+
+pub returns : goal.returns
+returns c = lemmas.folded_outside

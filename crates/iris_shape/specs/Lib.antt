@@ -1,0 +1,9 @@
+pub mod Folds
+pub mod Made
+pub mod FoldLaws
+pub mod Treap
+pub mod Local
+pub mod Order
+pub mod TreapLaws
+pub mod Rows
+pub mod Shaped

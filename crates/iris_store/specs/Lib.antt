@@ -1,0 +1,3 @@
+pub mod Traffic
+pub mod Honest
+pub mod Script

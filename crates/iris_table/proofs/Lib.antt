@@ -1,0 +1,21 @@
+pub mod Held
+pub mod Walks
+pub mod Resolve
+pub mod Finds
+pub mod Looks
+pub mod Agree
+pub mod Filed
+pub mod Resize
+pub mod Emptied
+pub mod Agreeing
+pub mod Content
+pub mod Kept
+pub mod Keeping
+pub mod Onces
+pub mod Countings
+pub mod Sounding
+pub mod Aging
+pub mod Lasting
+mod Examples
+pub mod Rising
+pub mod Ordered

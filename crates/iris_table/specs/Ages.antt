@@ -1,0 +1,44 @@
+-- What a step does to the files that it leaves: a file, a place and a version above 0 stand for one block for ever.
+use Rattle.std.specs.Prelude.{◌≡◌, ◌⊎◌, ℕ, ◌<◌, ◌≤◌, List, [], ◌∷◌, Some}
+use Rattle.iris_name.specs.declared.request.Request.{Request}
+use Rattle.iris_table.specs.Rows.{File, Rows, End, Row, Table}
+use Rattle.iris_table.specs.Changes.{stepped}
+use Rattle.iris_table.specs.Sound.{IsSound}
+
+-- a file of this id stands among rows
+abbrev pub Has : ℕ → File → Rows → Type 0
+Has i f End = ⊥
+Has i f (Row id name file inside next) = ((i ≡ id) × (file ≡ Some f)) ⊎ (Has i f inside ⊎ Has i f next)
+
+-- it stands in the table, in the trash or not
+abbrev pub Stands : ℕ → File → Table → Type 0
+Stands i f t = Has i f t.visible ⊎ Has i f t.trash
+
+-- a place is as it was, or a hole, or has a version above the old counter
+abbrev pub IsLaterPlace : File → File → ℕ → Type 0
+IsLaterPlace old new p = ((new.version p ≡ old.version p) × (new.block p ≡ old.block p)) ⊎ ((new.version p ≡ 0) ⊎ (old.counter < new.version p))
+
+-- the counter doesn't fall, and each place is as it was, a hole, or new
+pub record IsLater (old new : File) : Type 0 where
+  pub counter : old.counter ≤ new.counter
+  pub places : (p : ℕ) → IsLaterPlace old new p
+
+-- a step makes files later, and never gives an id again
+pub record Ages (old new : Table) : Type 0 where
+  pub next : old.next ≤ new.next
+  pub files : (i : ℕ) (f g : File) → Stands i f old → Stands i g new → IsLater f g
+  pub fresh : (i : ℕ) (g : File) → Stands i g new → old.next ≤ i ⊎ ((f : File) × Stands i f old)
+
+-- the table after requests, one after another
+abbrev pub after : Table → List Request → Table
+after t [] = t
+after t (request ∷ requests) = after (stepped t request) requests
+
+-- requests from a sound table age it
+abbrev pub RequestsAge : Type 0
+RequestsAge = (t : Table) (requests : List Request) → IsSound t → Ages t (after t requests)
+
+-- a file, a place and a version above 0 stand for one block, whatever requests come between
+abbrev pub StandsForOneBlock : Type 0
+StandsForOneBlock = (t : Table) (requests : List Request) (i : ℕ) (f g : File) (p : ℕ) → IsSound t → Stands i f t → Stands i g (after t requests)
+    → f.version p ≡ g.version p → 0 < g.version p → f.block p ≡ g.block p

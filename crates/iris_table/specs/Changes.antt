@@ -1,0 +1,177 @@
+-- The step of the table by a request.
+use Rattle.std.specs.Prelude.{ℕ, zero, suc, ◌+◌, ◌-◌, ◌*◌, ◌/◌, ◌%◌, ◌==◌, ◌&&◌, not, List, [], ◌∷◌, ◌++◌, length, take, drop, replicate, Bool, Option, Some, None, if◌then◌else◌, nat_lt, nat_le, is_none}
+use Rattle.iris_name.specs.declared.request.PlainError.{PlainError}
+use Rattle.iris_name.specs.declared.request.Request.{Request}
+use Rattle.iris_name.specs.declared.request.Request.TheVariants.{Mkdir, Create, Write, Read, Resize, Stat, List as ListNames, Rename, Remove, Sync, Root, Reclaim, Probe}
+use Rattle.iris_name.specs.Paths.{names_of}
+use Rattle.iris_plain.specs.Routes.{parent, last}
+use Rattle.iris_plain.specs.Checks.{blocks_of, verdict, is_full, size_of}
+use Rattle.iris_plain.specs.declared.checks.Seen.{Seen}
+use Rattle.iris_plain.specs.declared.checks.Seen.TheVariants.{ADirectory, AFile, Nothing, AFileBefore}
+use Rattle.iris_table.specs.Rows.{File, Rows, End, Row, Table, Taken, put, without, at, file_at, Found, Here, Missing, Through, met, zeros, empty_file}
+
+-- the block of a place with bytes over it that begin at an offset of the file
+abbrev pub merged : ℕ → List ℕ → ℕ → List ℕ → List ℕ
+merged offset bytes p old =
+    take (offset - p * 4096) old ++ (take (4096 - (offset - p * 4096)) (drop (p * 4096 - offset) bytes) ++ drop (offset + length bytes - p * 4096) old)
+
+-- bytes at this offset and so many touch the place
+abbrev pub is_touched : ℕ → ℕ → ℕ → Bool
+is_touched offset count p = nat_le (offset / 4096) p && nat_le p ((offset + count - 1) / 4096)
+
+-- a file after a write: every place that it touches gets the new number
+abbrev pub written : ℕ → List ℕ → File → File
+written offset bytes file = record {
+  size = if nat_lt file.size (offset + length bytes) then offset + length bytes else file.size;
+  counter = file.counter + 1;
+  version = λ p. if is_touched offset (length bytes) p then file.counter + 1 else file.version p;
+  block = λ p. if is_touched offset (length bytes) p then merged offset bytes p (file.block p) else file.block p;
+}
+
+-- a lesser length ends at or inside this place
+abbrev pub is_split : ℕ → ℕ → ℕ → Bool
+is_split size old p = nat_lt size old && (p == size / 4096)
+
+-- a file at a new length: places past it become holes, and the place that it splits gets the new number where it is no hole
+abbrev pub cut : ℕ → File → File
+cut size file = record {
+  size = size;
+  counter = file.counter + 1;
+  version = λ p. if nat_le (blocks_of size) p then 0 else if is_split size file.size p && not (file.version p == 0) then file.counter + 1 else file.version p;
+  block = λ p. if nat_le (blocks_of size) p then zeros else if is_split size file.size p then take (size % 4096) (file.block p) ++ replicate (4096 - size % 4096) 0 else file.block p;
+}
+
+-- how many places before this one are no holes
+abbrev pub filled : (ℕ → ℕ) → ℕ → ℕ
+filled version zero = 0
+filled version (suc p) = if version p == 0 then filled version p else filled version p + 1
+
+-- a file whose first 16 places that are no holes become holes
+abbrev pub freed : File → File
+freed file = record {
+  size = file.size;
+  counter = file.counter;
+  version = λ p. if nat_lt (filled file.version p) 16 then 0 else file.version p;
+  block = λ p. if nat_lt (filled file.version p) 16 then zeros else file.block p;
+}
+
+-- the digit of a number below 16
+abbrev pub hex_digit : ℕ → ℕ
+hex_digit d = if nat_lt d 10 then 48 + d else 87 + d
+
+-- the last so many hexadecimal digits of a number
+abbrev pub hex_digits : ℕ → ℕ → List ℕ
+hex_digits zero n = []
+hex_digits (suc count) n = hex_digits count (n / 16) ++ hex_digit (n % 16) ∷ []
+
+-- the name of an entry in the trash: the 16 digits of its id
+abbrev pub trash_name : ℕ → List ℕ
+trash_name id = hex_digits 16 id
+
+-- the visible rows changed, at the next age
+abbrev pub older : Rows → Table → Table
+older rows t = record { visible = rows; trash = t.trash; hand = t.hand; next = t.next; age = t.age + 1 }
+
+-- a new file or directory at a path
+abbrev pub made : Option File → List (List ℕ) → Table → Table
+made file names t = record {
+  visible = at (parent names) (put (last names) (record { id = t.next; file = file; inside = End })) t.visible;
+  trash = t.trash;
+  hand = t.hand;
+  next = t.next + 1;
+  age = t.age + 1;
+}
+
+-- the file at a path changed
+abbrev pub filed : (File → File) → List (List ℕ) → Table → Table
+filed change names t = older (at (parent names) (file_at (last names) change) t.visible) t
+
+-- the visible rows without those at and below a path
+abbrev pub gone : List (List ℕ) → Table → Rows
+gone names t = at (parent names) (without (last names)) t.visible
+
+-- the trash with a row under its own name
+abbrev pub thrown : Taken → Rows → Rows
+thrown row trash = put (trash_name row.id) row trash
+
+-- the row at a path moves into the trash
+abbrev pub removed : List (List ℕ) → Table → Found → Table
+removed names t (Here row) = record { visible = gone names t; trash = thrown row t.trash; hand = t.hand; next = t.next; age = t.age + 1 }
+removed names t Missing = t
+removed names t Through = t
+
+-- the row at a path moves to another
+abbrev pub moved : List (List ℕ) → List (List ℕ) → Table → Found → Table
+moved olds news t (Here row) = older (at (parent news) (put (last news) row) (gone olds t)) t
+moved olds news t Missing = t
+moved olds news t Through = t
+
+-- the row at a path moves into the trash, and a new empty file stands at the path
+abbrev pub emptied : List (List ℕ) → Table → Found → Table
+emptied names t (Here row) = record {
+  visible = at (parent names) (put (last names) (record { id = t.next; file = Some empty_file; inside = End })) (gone names t);
+  trash = thrown row t.trash;
+  hand = t.hand;
+  next = t.next + 1;
+  age = t.age + 1;
+}
+emptied names t Missing = t
+emptied names t Through = t
+
+-- the table with another trash
+abbrev pub retrashed : Rows → Table → Table
+retrashed rows t = record { visible = t.visible; trash = rows; hand = t.hand; next = t.next; age = t.age }
+
+-- one step on the trash, by its first row
+abbrev pub reclaimed : Table → Rows → Table
+reclaimed t End = t
+reclaimed t (Row id name None End next) = retrashed next t
+reclaimed t (Row id name None (Row i n file inside others) next) =
+    retrashed (thrown (record { id = i; file = file; inside = inside }) (Row id name None others next)) t
+reclaimed t (Row id name (Some file) inside next) =
+    if filled file.version (blocks_of file.size) == 0 then retrashed next t else retrashed (Row id name (Some (freed file)) inside next) t
+
+-- a change by the names of a path, none where there are none
+abbrev pub by_names : Table → Option (List (List ℕ)) → (List (List ℕ) → Table) → Table
+by_names t None change = t
+by_names t (Some names) change = change names
+
+-- what a row is seen as
+abbrev pub seen_file : Option File → Seen
+seen_file None = ADirectory
+seen_file (Some file) = AFile file.size
+
+-- what the end of resolving is seen as
+abbrev pub seen_row : Found → Seen
+seen_row (Here row) = seen_file row.file
+seen_row Missing = Nothing
+seen_row Through = AFileBefore
+
+-- what resolving a path meets, as the checks see it
+abbrev pub seen_in : Table → List (List ℕ) → Seen
+seen_in t names = seen_row (met t names)
+
+-- what an accepted request changes
+abbrev pub changed : Table → Request → Table
+changed t (Mkdir path) = by_names t (names_of path) (λ names. made None names t)
+changed t (Create path) = by_names t (names_of path) (λ names. made (Some empty_file) names t)
+changed t (Write path offset bytes) = by_names t (names_of path) (λ names. if length bytes == 0 then t else filed (written offset bytes) names t)
+changed t (Read path offset count) = t
+changed t (Resize path size) = by_names t (names_of path) (λ names.
+    if size == size_of (seen_in t names) then t else if size == 0 then emptied names t (met t names) else filed (cut size) names t)
+changed t (Stat path) = t
+changed t (ListNames path after) = t
+changed t (Rename from to) = by_names t (names_of from) (λ olds. by_names t (names_of to) (λ news. moved olds news t (met t olds)))
+changed t (Remove path) = by_names t (names_of path) (λ names. removed names t (met t names))
+changed t Sync = t
+changed t Root = t
+changed t Reclaim = reclaimed t t.trash
+changed t (Probe at) = t
+
+-- the first check that applies to a request
+abbrev pub table_verdict : Table → Request → Option PlainError
+table_verdict t request = verdict (seen_in t) (is_full t.age) request
+
+-- the next table: a plain error changes nothing
+abbrev pub stepped : Table → Request → Table
+stepped t request = if is_none (table_verdict t request) then changed t request else t

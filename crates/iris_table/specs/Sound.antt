@@ -1,0 +1,78 @@
+-- What holds of every table that requests make.
+use Rattle.std.specs.Prelude.{◌≡◌, true, ℕ, ◌+◌, ◌/◌, ◌%◌, ◌^◌, ◌≤◌, ◌==◌, ◌&&◌, List, length, Option, Some, None, if◌then◌else◌, nat_le, nat_lt, slice_index}
+use Rattle.iris_name.specs.Paths.{is_name}
+use Rattle.iris_plain.specs.Routes.{before}
+use Rattle.iris_plain.specs.Checks.{blocks_of}
+use Rattle.iris_table.specs.Rows.{File, Rows, End, Row, Table, find, zeros}
+
+-- the names of each directory stand once
+abbrev pub IsDistinct : Rows → Type 0
+IsDistinct End = Unit {0}
+IsDistinct (Row id name file inside next) = (find name next ≡ None) × IsDistinct inside × IsDistinct next
+
+-- each block has 4,096 bytes
+abbrev pub ArePages : (ℕ → List ℕ) → Type 0
+ArePages block = (p : ℕ) → length (block p) ≡ 4096
+
+-- the byte of a file's blocks at an offset
+abbrev pub byte_at : (ℕ → List ℕ) → ℕ → ℕ
+byte_at block i = slice_index (block (i / 4096)) (i % 4096)
+
+-- a file's blocks are whole, with zeros past its end
+abbrev pub IsGood : Option File → Type 0
+IsGood None = Unit {0}
+IsGood (Some f) = ArePages f.block × ((i : ℕ) → f.size ≤ i → byte_at f.block i ≡ 0)
+
+-- so are those of every file among rows
+abbrev pub AreGood : Rows → Type 0
+AreGood End = Unit {0}
+AreGood (Row id name file inside next) = IsGood file × AreGood inside × AreGood next
+
+-- a file's versions are at most its counter, the counter at most the age; places past the end are holes, and a hole reads as zeros
+pub record IsCounted (age : ℕ) (f : File) : Type 0 where
+  pub version : (p : ℕ) → f.version p ≤ f.counter
+  pub counter : f.counter ≤ age
+  pub past : (p : ℕ) → blocks_of f.size ≤ p → f.version p ≡ 0
+  pub hole : (p : ℕ) → f.version p ≡ 0 → f.block p ≡ zeros
+
+-- the fact for a file, where there is one
+abbrev pub OnFile : (File → Type 0) → Option File → Type 0
+OnFile P None = Unit {0}
+OnFile P (Some f) = P f
+
+-- the fact for every file among rows
+abbrev pub AllFiles : (File → Type 0) → Rows → Type 0
+AllFiles P End = Unit {0}
+AllFiles P (Row id name file inside next) = OnFile P file × AllFiles P inside × AllFiles P next
+
+-- how often an id stands among rows
+abbrev pub times : ℕ → Rows → ℕ
+times i End = 0
+times i (Row id name file inside next) = (if i == id then 1 else 0) + (times i inside + times i next)
+
+-- each id that was given stands once at most, and no other stands
+abbrev pub AreOnce : Table → Type 0
+AreOnce t = (i : ℕ) → times i t.visible + times i t.trash ≤ (if nat_le 2 i && nat_lt i t.next then 1 else 0)
+
+-- a table that requests made
+pub record IsSound (t : Table) : Type 0 where
+  pub distinct : IsDistinct t.visible
+  pub good : AreGood t.visible
+  pub trash_good : AreGood t.trash
+  pub counted : AllFiles (IsCounted t.age) t.visible
+  pub trash_counted : AllFiles (IsCounted t.age) t.trash
+  pub once : AreOnce t
+  pub hand : t.hand ≡ End
+  pub first : 2 ≤ t.next
+  pub next : t.next ≤ t.age + 2
+  pub age : t.age ≤ 2 ^ 40
+
+-- a name comes before the first of rows
+abbrev pub IsAbove : List ℕ → Rows → Type 0
+IsAbove n End = Unit {0}
+IsAbove n (Row id name file inside next) = before n name ≡ true
+
+-- the names of each directory rise by their bytes, and each is a name of the grammar
+abbrev pub IsOrdered : Rows → Type 0
+IsOrdered End = Unit {0}
+IsOrdered (Row id name file inside next) = (is_name name ≡ true) × IsAbove name next × IsOrdered inside × IsOrdered next
