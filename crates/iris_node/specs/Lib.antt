@@ -7,3 +7,5 @@ pub mod Tests
 pub mod Views
 pub mod Whole
 pub mod Laws
+pub mod Unfolded
+pub mod Local

@@ -5,3 +5,5 @@ pub mod Sound
 pub mod Ages
 pub mod Agree
 pub mod Laws
+pub mod Places
+pub mod Items
