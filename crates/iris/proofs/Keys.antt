@@ -1,11 +1,11 @@
 -- The digits of a key, and decoding into room for 32 bytes.
 use Rattle.std.proofs.Common.{◌≡◌, ◌∙◌, sym, ap, refl, arith, ℕ, ◌*◌, ◌<◌, ◌≤◌, List, [], ◌∷◌, map, length, slice_index_or, Bor}
-use Rattle.std.specs.Prelude.{Option, Some, None, Result, Ok, IfSome, IfNone, codes}
+use Rattle.std.specs.Prelude.{Option, Some, None, Result, Ok, IfSome, IfNone}
 use Rattle.std.specs.Result.{result_ok}
 use Rattle.hex.specs.Hex.{decode_sized}
 use Rattle.hex.specs.declared.error.FromHexError.{FromHexError}
 use Rattle.hex.proofs.HexLemmas.{decode_sized-twice, decode_of-ok}
-use Rattle.iris.specs.Words.{IsKey, AreWords}
+use Rattle.iris.specs.Words.{IsKey, IsCommand}
 
 -- a key's digits decode into 32 bytes
 pub key_sized : (s master : List ℕ) → IsKey s master → decode_sized s 32 ≡ Ok master
@@ -28,15 +28,20 @@ two_words (a ∷ []) d low high = grind arith
 two_words (a ∷ b ∷ []) d low high = refl
 two_words (a ∷ b ∷ c ∷ ws) d low high = grind arith
 
--- a key after the word `registers`
-pub words_some : (ws : List (List ℕ)) (command digits : List ℕ) (key : Option (List ℕ)) → ws ≡ command ∷ digits ∷ []
-    → command ≡ codes "registers" → IfSome key (λ master. IsKey digits master) → IfSome key (λ master. AreWords ws master)
-words_some ws command digits None two same spelled = tt
-words_some ws command digits (Some master) two same spelled = (digits, two ∙ ap (λ word. word ∷ digits ∷ []) same, spelled)
+-- a key after the command's word
+pub words_some : (ws : List (List ℕ)) (first digits command : List ℕ) (key : Option (List ℕ)) → ws ≡ first ∷ digits ∷ []
+    → first ≡ command → IfSome key (λ master. IsKey digits master) → IfSome key (λ master. IsCommand command ws master)
+words_some ws first digits command None two same spelled = tt
+words_some ws first digits command (Some master) two same spelled = (digits, two ∙ ap (λ word. word ∷ digits ∷ []) same, spelled)
 
 -- no key as the second word
-pub words_none : (ws : List (List ℕ)) (command digits : List ℕ) (key : Option (List ℕ)) → ws ≡ command ∷ digits ∷ []
-    → IfNone key ((master : List ℕ) → IsKey digits master → ⊥) → IfNone key ((master : List ℕ) → AreWords ws master → ⊥)
-words_none ws command digits None two none =
+pub words_none : (ws : List (List ℕ)) (first digits command : List ℕ) (key : Option (List ℕ)) → ws ≡ first ∷ digits ∷ []
+    → IfNone key ((master : List ℕ) → IsKey digits master → ⊥) → IfNone key ((master : List ℕ) → IsCommand command ws master → ⊥)
+words_none ws first digits command None two none =
     λ master are. let same : digits ≡ are.0 = cc (sym two ∙ are.1) in none master (rw same are.2)
-words_none ws command digits (Some master) two none = tt
+words_none ws first digits command (Some master) two none = tt
+
+-- another word than the command's
+pub words_other : (ws : List (List ℕ)) (first digits command : List ℕ) → ws ≡ first ∷ digits ∷ [] → (first ≡ command → ⊥)
+    → (master : List ℕ) → IsCommand command ws master → ⊥
+words_other ws first digits command two differ master are = differ (cc (sym two ∙ are.1))

@@ -14,3 +14,6 @@ mod Refusals
 mod Ends
 mod Sources
 mod Keys
+mod Plains
+mod PlainEnds
+mod Commands

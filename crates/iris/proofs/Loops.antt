@@ -1,18 +1,17 @@
 -- The session's loop over the lines.
-use Rattle.std.proofs.Common.{◌≡◌, inr, ℕ, zero, suc, ◌+◌, ◌*◌, ◌<◌, ◌≤◌, ◌^◌, List, [], ◌∷◌, ◌++◌, length, map, get_or, None, Option, Some, refl, sym, ◌∙◌, ap, subst, arith, append_assoc}
+use Rattle.std.proofs.Common.{◌≡◌, inr, ℕ, suc, ◌+◌, ◌<◌, ◌^◌, List, [], ◌∷◌, ◌++◌, length, map, get_or, None, Option, Some, refl, sym, ◌∙◌, ap, subst, arith, append_assoc}
 use Rattle.std.specs.List.{All}
 use Rattle.std.proofs.lemmas.List.{length-append}
 use Rattle.iris_name.specs.declared.note.Note.{Note}
-use Rattle.iris_name.specs.declared.request.Request.{Request}
 use Rattle.iris_store.specs.declared.Transfer.{Transfer}
 use Rattle.iris.specs.declared.line.Line.{Line}
 use Rattle.iris.specs.declared.session.Session.{Session}
 use Rattle.iris.specs.Lines.{request_of}
-use Rattle.iris.specs.Said.{Said, silent}
+use Rattle.iris.specs.Said.{silent}
 use Rattle.iris.specs.Session.{Serves, Stops, IsReady, IsFew, IsOneMore, ServedAtMost, IsJudged}
 use Rattle.iris.specs.Top.{IsFresh}
-use Rattle.iris.proofs.Sessions.{keeps_first, ready_judged}
-use Rattle.iris.proofs.Stretches.{serves_more, serves_none, stops_more, stops_first, extended_none}
+use Rattle.iris.proofs.Sessions.{keeps_first}
+use Rattle.iris.proofs.Stretches.{serves_more, serves_none, stops_more, stops_first}
 
 -- some lines are done, and the rest isn't
 pub record Goes (key : List ℕ) (lines rest : List Line) (old new : Option (List Note)) (before after : Option (List Transfer)) (f g : ℕ) (session : Session) : Type 0 where

@@ -1,5 +1,5 @@
 -- How the notes of a read keep what the session keeps.
-use Rattle.std.proofs.Common.{◌≡◌, ◌≢◌, ◌⊎◌, inl, inr, ℕ, zero, suc, ◌+◌, ◌≤◌, ◌<◌, List, [], ◌∷◌, length, take, drop, get_or, Bool, true, false, cond, Option, Some, None, IsSome, refl, sym, ◌∙◌, ap, subst, arith}
+use Rattle.std.proofs.Common.{◌≡◌, ◌≢◌, ◌⊎◌, inl, inr, ℕ, zero, suc, ◌+◌, ◌<◌, List, ◌∷◌, length, take, drop, get_or, Bool, true, false, cond, Option, Some, None, refl, sym, ◌∙◌, ap, subst, arith}
 use Rattle.std.proofs.lemmas.List.{length-append, take_at, drop_at}
 use Rattle.sha2.proofs.Facts256.{length-sha256}
 use Rattle.iris_name.specs.declared.note.Answer.{Answer}
@@ -12,7 +12,7 @@ use Rattle.iris_name.specs.declared.request.Reply.{Reply}
 use Rattle.iris_name.specs.declared.request.Reply.TheVariants.{Bytes, Refused}
 use Rattle.iris_name.specs.History.{Past, Stamped, begun}
 use Rattle.iris_name.specs.Hmac.{record_of, tag, hmac, Passes}
-use Rattle.iris_history.specs.Answers.{Last, Stored, last_of, IsOther}
+use Rattle.iris_history.specs.Answers.{Stored, last_of, IsOther}
 use Rattle.iris_history.specs.Kept.{Carries, takes_step, version_of}
 use Rattle.iris_history.specs.Legal.{IsLawful, Licenses}
 use Rattle.iris_history.specs.Values.{IsRequest, IsReply, AreBytes}
@@ -21,7 +21,7 @@ use Rattle.iris_history.proofs.Pasts.{begun_here, comes_last}
 use Rattle.iris_history.proofs.Records.{got_passing, clean_put}
 use Rattle.iris.specs.Agrees.{Agrees}
 use Rattle.iris.specs.Answers.{Fits}
-use Rattle.iris.specs.Registers.{Registers, place_of, registers, register_rules, block_name, shown, spelled, zeros, Legal, Bad, Clean}
+use Rattle.iris.specs.Registers.{Registers, place_of, registers, register_rules, block_name, shown, zeros, Legal, Bad, Clean}
 use Rattle.iris.proofs.Tables.{table, older, unwritten, live_shown, version_shown, shown_same, same_self, is_live}
 use Rattle.iris.proofs.Steps.{noted}
 

@@ -1,18 +1,15 @@
 -- A refusal in a legal session comes of a get that failed, or that gave something other than was stored last.
-use Rattle.std.proofs.Common.{◌≡◌, ◌⊎◌, inl, inr, ℕ, List, [], ◌∷◌, ◌++◌, length, Bool, true, false, ◌||◌, refl, sym, ◌∙◌, subst, ap}
+use Rattle.std.proofs.Common.{◌≡◌, ◌⊎◌, inl, inr, ℕ, List, [], ◌∷◌, Bool, true, false, ◌||◌, refl, sym, subst}
 use Rattle.iris_name.specs.declared.note.Note.{Note}
 use Rattle.iris_name.specs.declared.note.Note.TheVariants.{Call, Got, Put, Dropped}
-use Rattle.iris_name.specs.declared.name.Name.{Name}
 use Rattle.iris_name.specs.declared.request.Cause.{Cause}
 use Rattle.iris_name.specs.declared.request.Cause.TheVariants.{StoreFailed, BadAnswer}
 use Rattle.iris_name.specs.declared.request.Request.{Request}
 use Rattle.iris_name.specs.declared.request.Request.TheVariants.{Mkdir, Create, Write, Read, Resize, Stat, List as ListNames, Rename, Remove, Sync, Root, Reclaim, Probe}
-use Rattle.iris_name.specs.declared.request.Reply.{Reply}
 use Rattle.iris_name.specs.declared.request.Reply.TheVariants.{Done, Bytes, Names, Stat as Stated, Digest, Synced, Reclaimed, Probed, Plain, Refused}
-use Rattle.iris_name.specs.History.{Past, Stamped, past_of, noted, begun}
-use Rattle.iris_name.specs.Names.{same_name}
+use Rattle.iris_name.specs.History.{Past, past_of, noted, begun}
 use Rattle.iris_history.specs.Answers.{last_of, IsOther, IsFailure}
-use Rattle.iris_history.specs.Legal.{IsLegal, IsLawful, IsLicensed, Licenses}
+use Rattle.iris_history.specs.Legal.{IsLawful, IsLicensed, Licenses}
 use Rattle.iris_history.proofs.Names.{named}
 use Rattle.iris.specs.Notes.{replies_of, AnyGetFailed, is_refused, any_refused}
 use Rattle.iris.specs.Registers.{Legal, registers, register_rules, Replies, Registers}

@@ -1,29 +1,24 @@
 -- How the ends of a run give what its caller sees.
-use Rattle.std.proofs.Common.{◌≡◌, ◌≢◌, ◌⊎◌, inl, inr, ℕ, zero, suc, ◌+◌, ◌≤◌, ◌<◌, List, [], ◌∷◌, ◌++◌, length, take, Bool, true, false, cond, ◌||◌, Option, Some, None, Result, Ok, Err, IfSome, refl, sym, ◌∙◌, ap, subst, arith, IsTrue, append_assoc}
-use Rattle.std.specs.Prelude.{◌↔◌}
+use Rattle.std.proofs.Common.{◌≡◌, ◌⊎◌, inr, ℕ, ◌+◌, ◌≤◌, List, [], ◌∷◌, ◌++◌, length, Bool, true, false, ◌||◌, Option, Some, None, IfSome, refl, sym, ◌∙◌, ap, subst, append_assoc}
 use Rattle.iris_name.specs.declared.note.Note.{Note}
-use Rattle.iris_name.specs.declared.note.Note.TheVariants.{Call, Got, Put, Dropped}
 use Rattle.iris_name.specs.declared.request.Request.{Request}
 use Rattle.iris_name.specs.declared.request.Reply.{Reply}
-use Rattle.iris_name.specs.declared.request.Reply.TheVariants.{Refused}
-use Rattle.iris_name.specs.History.{Past, Stamped, past_of, noted}
+use Rattle.iris_name.specs.History.{past_of}
 use Rattle.iris_name.specs.Hmac.{block_key}
 use Rattle.iris_name.specs.Told.{extended}
 use Rattle.iris_script.specs.Cuts.{lines_of}
 use Rattle.iris_script.specs.Printing.{reply_line}
 use Rattle.iris_store.specs.declared.Transfer.{Transfer}
-use Rattle.iris.specs.Lines.{AllSpell, IsFirstBad, SpellsNone}
-use Rattle.iris.specs.Notes.{requests_of, replies_of, transfers_of, AllBy, AnyGetFailed, is_refused, any_refused, printed_from, printed}
-use Rattle.iris.specs.Outside.{IsFault}
+use Rattle.iris.specs.Lines.{AllSpell}
+use Rattle.iris.specs.Notes.{is_refused, any_refused, printed_from, printed}
 use Rattle.iris.specs.Reading.{IsAllOf, IsWithin}
 use Rattle.iris.specs.Registers.{Bad, Legal}
-use Rattle.iris.specs.Run.{Ran, IsUntouched, StoppedShort}
+use Rattle.iris.specs.Run.{Ran}
 use Rattle.iris.specs.Said.{Said, saying, saying_all, silent}
-use Rattle.iris.specs.Session.{Serves, Stops, IsJudged, HasShape}
+use Rattle.iris.specs.Session.{Serves, IsJudged, HasShape}
 use Rattle.iris.specs.Shape.{IsShaped}
-use Rattle.iris.specs.Top.{IsFresh, WasRead, AreFirst, IsBadOrLegal, HasItsTransfers, AnyOther, IsOtherGet}
+use Rattle.iris.specs.Top.{IsFresh, WasRead}
 use Rattle.iris.specs.Words.{AreWords}
-use Rattle.iris.proofs.Stretches.{extended_none}
 
 -- words hold one key
 pub one_key : (words : List (List ℕ)) (a b : List ℕ) → AreWords words a → AreWords words b → a ≡ b

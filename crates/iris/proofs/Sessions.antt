@@ -1,5 +1,5 @@
 -- The steps of a session, where its notes may be told.
-use Rattle.std.proofs.Common.{◌≡◌, ◌≢◌, ◌⊎◌, inl, inr, ℕ, zero, suc, ◌+◌, ◌*◌, ◌/◌, ◌<◌, List, [], ◌∷◌, ◌++◌, length, set, get_or, drop, take, ◌==◌, Bool, cond, Option, Some, None, refl, sym, ◌∙◌, ap, subst, arith, codes}
+use Rattle.std.proofs.Common.{◌≡◌, ◌≢◌, ◌⊎◌, inl, inr, ℕ, zero, suc, ◌+◌, ◌*◌, ◌<◌, List, [], ◌∷◌, ◌++◌, length, set, get_or, drop, take, ◌==◌, Bool, cond, Option, Some, None, refl, sym, ◌∙◌, ap, subst, arith, codes}
 use Rattle.std.proofs.lemmas.List.{take_at, length-set}
 use Rattle.std.proofs.lemmas.Bool.Decides.{eqb_tells}
 use Rattle.iris_name.specs.declared.note.Answer.{Answer}
@@ -12,7 +12,7 @@ use Rattle.iris_name.specs.declared.request.Reply.TheVariants.{Done, Bytes}
 use Rattle.iris_name.specs.History.{Past, Stamped, past_of}
 use Rattle.iris_name.specs.Hmac.{record_of, tag}
 use Rattle.iris_name.specs.Told.{appended}
-use Rattle.iris_history.specs.Values.{AreBytes, IsRequest, IsReply}
+use Rattle.iris_history.specs.Values.{AreBytes, IsReply}
 use Rattle.iris_history.proofs.Growth.{judged_more}
 use Rattle.iris_history.proofs.Pasts.{past_last}
 use Rattle.iris.specs.Agrees.{Agrees, Keeps}
@@ -24,8 +24,8 @@ use Rattle.iris.specs.Session.{IsJudged, IsReady, HasShape}
 use Rattle.iris.specs.Shape.{IsShaped, Empty, Wrote, Fetched, Had}
 use Rattle.iris.specs.Top.{IsFresh}
 use Rattle.iris.proofs.Fillings.{path_is_text, bytes_zeros, bytes_filled}
-use Rattle.iris.proofs.Readings.{told, got, read_here, read_zeros, read_got, got_lawful}
-use Rattle.iris.proofs.Steps.{noted, put, wrote, judged_call}
+use Rattle.iris.proofs.Readings.{read_here, read_zeros, read_got, got_lawful}
+use Rattle.iris.proofs.Steps.{noted, wrote, judged_call}
 use Rattle.iris.proofs.Tables.{table, is_live, length_zeros}
 
 -- what isn't live isn't clean

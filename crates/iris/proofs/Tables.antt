@@ -1,18 +1,17 @@
 -- Laws of the registers' table.
-use Rattle.std.proofs.Common.{◌≡◌, ◌≢◌, ◌⊎◌, inl, inr, ℕ, zero, suc, ◌+◌, ◌≤◌, List, [], ◌∷◌, length, drop, Bool, true, false, cond, not, ◌==◌, ◌&&◌, Option, Some, None, refl, sym, ◌∙◌, ap, subst, arith, IsSome, is_some}
+use Rattle.std.proofs.Common.{◌≡◌, ◌≢◌, inl, inr, ℕ, zero, suc, ◌+◌, ◌≤◌, List, [], ◌∷◌, length, drop, Bool, true, false, cond, not, ◌==◌, Option, Some, None, refl, sym, ◌∙◌, ap, arith, IsSome, is_some}
 use Rattle.std.proofs.lemmas.List.{length-replicate}
 use Rattle.std.proofs.lemmas.Bool.{eq-eqb}
 use Rattle.std.proofs.lemmas.Bool.Decides.{eqb_tells}
-use Rattle.iris_name.specs.declared.name.Name.{Name}
 use Rattle.iris_name.specs.declared.note.Note.{Note}
 use Rattle.iris_name.specs.declared.note.Note.TheVariants.{Call, Got, Put, Dropped}
 use Rattle.iris_name.specs.declared.request.Request.{Request}
 use Rattle.iris_name.specs.declared.request.Request.TheVariants.{Write}
-use Rattle.iris_name.specs.History.{Past, Stamped}
+use Rattle.iris_name.specs.History.{Past}
 use Rattle.iris_name.specs.Names.{same_name}
 use Rattle.iris_history.specs.Kept.{table_of, after, takes_step, version_of}
 use Rattle.iris_history.proofs.Pasts.{table_keeps}
-use Rattle.iris.specs.Registers.{Registers, zeros, written, stepped, place_of, registers, block_name, shown}
+use Rattle.iris.specs.Registers.{Registers, zeros, stepped, place_of, registers, block_name, shown}
 
 -- the registers after a past
 abbrev pub table : List ℕ → Past → Registers

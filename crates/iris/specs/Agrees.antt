@@ -3,7 +3,6 @@ use Rattle.std.specs.Prelude.{ℕ, ◌<◌, ◌≡◌, ◌≢◌, ◌⊎◌, Lis
 use Rattle.iris_name.specs.declared.note.Note.{Note}
 use Rattle.iris_name.specs.History.{Past, past_of}
 use Rattle.iris_history.specs.Kept.{table_of}
-use Rattle.iris_history.specs.Values.{AreBytes}
 use Rattle.iris.specs.Registers.{registers, Clean, Legal, Bad}
 use Rattle.iris.specs.Shape.{IsShaped}
 

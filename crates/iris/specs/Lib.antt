@@ -12,3 +12,6 @@ pub mod Reading
 pub mod Memory
 pub mod Top
 pub mod Run
+pub mod Plain
+pub mod Complaints
+pub mod Commands

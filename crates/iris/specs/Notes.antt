@@ -1,6 +1,5 @@
 -- What the notes of a session say of its calls, its transfers and its replies.
-use Rattle.std.specs.Prelude.{◌≡◌, ◌⊎◌, ℕ, ◌+◌, List, [], ◌∷◌, ◌++◌, length, Bool, true, false, ◌||◌}
-use Rattle.iris_name.specs.declared.note.Answer.{Answer}
+use Rattle.std.specs.Prelude.{◌≡◌, ◌⊎◌, ℕ, ◌+◌, List, [], ◌∷◌, ◌++◌, Bool, true, false, ◌||◌}
 use Rattle.iris_name.specs.declared.note.Note.{Note}
 use Rattle.iris_name.specs.declared.note.Note.TheVariants.{Call, Got, Put, Dropped}
 use Rattle.iris_name.specs.declared.request.Request.{Request}

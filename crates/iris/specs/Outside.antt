@@ -1,5 +1,5 @@
 -- What is told of the outside: bytes left to read, bytes written, and how often it failed.
-use Rattle.std.specs.Prelude.{◌≡◌, ◌⊎◌, ℕ, ◌-◌, ◌<◌, ◌≤◌, ◌^◌, List, [], ◌++◌, length, take, drop, Option, Some, None}
+use Rattle.std.specs.Prelude.{◌≡◌, ◌⊎◌, ℕ, ◌-◌, ◌<◌, ◌≤◌, ◌^◌, List, [], length, take, drop, Option, Some, None}
 
 -- a read into a slice of this length took n bytes off the front of what was left, where that is told; none of a slice that
 -- isn't empty is the end

@@ -1,6 +1,5 @@
 -- The block registers: a counter, and for each place of one file a version and a block.
-use Rattle.std.specs.Prelude.{ℕ, ◌+◌, ◌/◌, ◌≡◌, ◌≢◌, List, [], ◌∷◌, replicate, Bool, true, false, not, ◌==◌, ◌&&◌, if◌then◌else◌, Option, Some, None}
-use Rattle.iris_name.specs.declared.name.FileId.{FileId}
+use Rattle.std.specs.Prelude.{ℕ, ◌+◌, ◌/◌, ◌≡◌, ◌≢◌, List, [], replicate, not, ◌==◌, ◌&&◌, if◌then◌else◌, Option, Some, None}
 use Rattle.iris_name.specs.declared.name.Name.{Name}
 use Rattle.iris_name.specs.declared.name.Name.TheVariants.{Entry, Part, Block}
 use Rattle.iris_name.specs.declared.request.Request.{Request}

@@ -1,5 +1,5 @@
 -- How a run ends, case by case.
-use Rattle.std.specs.Prelude.{◌≡◌, ◌≢◌, ◌⊎◌, ℕ, ◌≤◌, List, [], ◌∷◌, take, Bool, true, false, Option, Some, None, Result, Ok, Err}
+use Rattle.std.specs.Prelude.{◌≡◌, ◌≢◌, ◌⊎◌, ℕ, List, take, Bool, true, false, Option, Some, Result, Ok, Err}
 use Rattle.iris_name.specs.declared.note.Note.{Note}
 use Rattle.iris_name.specs.declared.request.Request.{Request}
 use Rattle.iris_name.specs.Hmac.{block_key}
@@ -13,7 +13,6 @@ use Rattle.iris.specs.declared.reading.ReadError.TheVariants as read
 use Rattle.iris.specs.declared.top.Stop.{Stop}
 use Rattle.iris.specs.declared.top.Stop.TheVariants.{BadWords, BadLine, Unread, Unwritten, TooLong, NoMemory}
 use Rattle.iris.specs.Lines.{IsFirstBad, AllSpell}
-use Rattle.iris.specs.Notes.{requests_of}
 use Rattle.iris.specs.Outside.{IsFault}
 use Rattle.iris.specs.Reading.{HasMoreThan, IsWithin}
 use Rattle.iris.specs.Said.{Said, silent}

@@ -1,5 +1,5 @@
 -- A whole run of the registers, as its caller sees it.
-use Rattle.std.specs.Prelude.{◌≡◌, ◌≢◌, ◌⊎◌, ℕ, ◌≤◌, List, [], ◌∷◌, take, Option, Some, None}
+use Rattle.std.specs.Prelude.{◌≡◌, ◌≢◌, ◌⊎◌, ℕ, ◌<◌, ◌≤◌, List, [], ◌∷◌, length, take, Option, Some, None}
 use Rattle.iris_name.specs.declared.note.Note.{Note}
 use Rattle.iris_name.specs.declared.note.Note.TheVariants.{Call, Got, Put, Dropped}
 use Rattle.iris_name.specs.declared.request.Request.{Request}
@@ -7,8 +7,7 @@ use Rattle.iris_name.specs.History.{Past, past_of}
 use Rattle.iris_name.specs.Hmac.{block_key}
 use Rattle.iris_history.specs.Answers.{last_of, IsOther}
 use Rattle.iris_script.specs.Cuts.{lines_of}
-use Rattle.iris.specs.Lines.{AllSpell}
-use Rattle.iris.specs.Notes.{requests_of}
+use Rattle.iris.specs.Lines.{AllSpell, IsFirstBad}
 use Rattle.iris.specs.Registers.{Bad, Legal}
 use Rattle.iris.specs.Shape.{IsShaped}
 use Rattle.iris.specs.Words.{AreWords}
@@ -34,10 +33,9 @@ IsUnbegun status = (status ≡ 2) ⊎ (status ≡ 3) ⊎ (status ≡ 7)
 abbrev pub IsSilent : ℕ → Type 0
 IsSilent status = IsUnbegun status ⊎ (status ≡ 8)
 
--- it ended before a script was read to its end: the script is too long, the source failed, memory ran out, or the words
--- hold no key
-abbrev pub IsUnread : ℕ → ℕ → Type 0
-IsUnread status line = (status ≡ 7) ⊎ (status ≡ 3) ⊎ (status ≡ 8) ⊎ ((status ≡ 2) × (line ≡ 0))
+-- the source didn't fail and memory didn't run out
+abbrev pub WentOn : ℕ → Type 0
+WentOn status = (status ≢ 3) × (status ≢ 8)
 
 -- the source was read to its end and its lines spell these requests, where that is told
 abbrev pub WasRead : Option (List ℕ) → Option (List ℕ) → List Request → Type 0
@@ -66,6 +64,22 @@ HasKey words = (master : List ℕ) × AreWords words master
 abbrev pub HasNoKey : List (List ℕ) → Type 0
 HasNoKey words = (master : List ℕ) → AreWords words master → ⊥
 
+-- The words hold a key, and line n of a script within its limit is the first that spells no request.
+pub record HasBadLine (words : List (List ℕ)) (bytes : List ℕ) (n : ℕ) : Type 0 where
+  pub key : HasKey words
+  pub limit : length bytes ≤ 16777216
+  pub first : IsFirstBad (lines_of bytes) n
+
+-- The words hold a key, and the script is longer than its limit.
+pub record IsTooLong (words : List (List ℕ)) (bytes : List ℕ) : Type 0 where
+  pub key : HasKey words
+  pub over : 16777216 < length bytes
+
+-- the script is told, keeps its limit, and each of its lines spells a request
+abbrev pub IsInForm : Option (List ℕ) → Type 0
+IsInForm None = ⊥
+IsInForm (Some bytes) = (length bytes ≤ 16777216) × (requests : List Request) × AllSpell (lines_of bytes) requests
+
 -- a note that stands on this past is a get that gave something other than was stored last
 abbrev pub IsOtherGet : Note → Past → Type 0
 IsOtherGet (Got who since name answer) past = IsOther (last_of name past) answer
@@ -77,3 +91,7 @@ IsOtherGet (Dropped who since name ok) past = ⊥
 abbrev pub AnyOther : Past → Type 0
 AnyOther [] = ⊥
 AnyOther (x ∷ past) = IsOtherGet x.note past ⊎ AnyOther past
+
+-- where no get gave something other: all done and nothing refused, or want of memory, or a bad history
+abbrev pub IsDoneIfHonest : List ℕ → ℕ → List Note → Type 0
+IsDoneIfHonest master status notes = ¬ AnyOther (past_of (notes ∷ [])) → (status ≡ 0) ⊎ (status ≡ 8) ⊎ Bad (block_key master) (past_of (notes ∷ []))

@@ -6,6 +6,10 @@ use Rattle.hex.specs.Hex.{decode_of}
 abbrev pub IsKey : List ℕ → List ℕ → Type 0
 IsKey digits master = (decode_of digits ≡ Ok master) × (length master ≡ 32)
 
+-- the words are a command's and the digits of that master key
+abbrev pub IsCommand : List ℕ → List (List ℕ) → List ℕ → Type 0
+IsCommand command words master = (digits : List ℕ) × (words ≡ command ∷ digits ∷ []) × IsKey digits master
+
 -- the words are `registers` and the digits of that master key
 abbrev pub AreWords : List (List ℕ) → List ℕ → Type 0
-AreWords words master = (digits : List ℕ) × (words ≡ codes "registers" ∷ digits ∷ []) × IsKey digits master
+AreWords words master = IsCommand (codes "registers") words master

@@ -1,6 +1,8 @@
 //! Records in real files, and the process's standard streams. They tell nothing.
 
-ghost use Rattle.std.specs.Prelude.{◌≡◌, ◌++◌, None, IfOk, string_bytes, codes};
+ghost use Rattle.std.specs.Prelude.{◌≡◌, ◌≢◌, ◌++◌, None, IfOk, string_bytes, codes};
+ghost use Rattle.std.specs.IoError.{error_kind};
+ghost use Rattle.std.specs.declared.io.ErrorKind.TheVariants.{OutOfMemory};
 ghost use Rattle.iris_name.specs.NameText.{name_text};
 ghost use Rattle.iris_store.specs.Traffic.{IsCaused, IsShort};
 
@@ -22,7 +24,10 @@ pub struct FileStore<R: Files + Drop> {
 }
 
 // What the system's error is to a store.
-fn store_error(error: &io::Error) -> StoreError {
+fn store_error(error: &io::Error) -> StoreError
+    ensures memory { error_kind error.now ≡ OutOfMemory → result ≡ StoreError.NoMemory }
+    ensures failed { error_kind error.now ≢ OutOfMemory → result ≡ StoreError.Failed }
+{
     match error.kind() {
         ErrorKind::OutOfMemory => StoreError::NoMemory,
         _ => StoreError::Failed,

@@ -1,6 +1,12 @@
 //! `iris FOLDER WORDS`: the portal over a folder of records.
 #![tactic(auto)]
 
+ghost use Rattle.std.specs.Prelude.{◌≡◌, ◌≤◌, ◌⊎◌, ◌↔◌, IfOk, map, string_bytes};
+ghost use Rattle.std.specs.Option.{option_map};
+ghost use Rattle.iris.specs.Complaints.{complaint_of};
+ghost use Rattle.iris.specs.Commands.{IsStatus, HasNoCommand};
+ghost use Rattle.iris.specs.Top.{HasNoKey};
+
 mod blocks;
 mod disk;
 mod line;
@@ -9,6 +15,7 @@ mod memory;
 mod outcome;
 mod outside;
 mod places;
+mod plain;
 mod reading;
 mod replies;
 mod session;
@@ -22,30 +29,37 @@ use iris_log::MemLog;
 use iris_name::Text;
 use iris_store::Told;
 use outcome::Registers;
+use plain::plain_run;
 use std::alloc::{AllocError, Global};
 use std::process::ExitCode;
 use std::{env, io};
 use top::registers;
+use words::read_command;
 
 const HELP: &str = "\
 iris FOLDER registers KEY    serves block registers over the records in FOLDER/blocks
+iris FOLDER plain KEY        serves a plain file system in memory, with no store
 
-KEY is the master key, 64 hexadecimal digits. The script comes on standard input: lines
-`write PLACE HEX` and `read PLACE`. The replies go to standard output once all lines are
-served. The status is 0, or 1 where a reply is refused, 2 for bad words or a bad line, 3
-where the script can't be read, 4 where the output can't be written, 7 where the script
-is too long, 8 for want of memory.";
+KEY is the master key, 64 hexadecimal digits. The script comes on standard input: for
+registers lines `write PLACE HEX` and `read PLACE`, for plain lines of up to 16 clients,
+as `1 mkdir /docs` and `2 write /docs/a.txt 0 6869`. The replies go to standard output
+once all lines are served. The status is 0, or 1 where a reply is refused, 2 for bad
+words or a bad line, 3 where the script can't be read, 4 where the output can't be
+written, 7 where the script is too long or names a client above 16, 8 for want of memory.";
 
 const VERSION: &str = "iris 0.1.0";
 
 // What the run printed nothing for, as a line on standard error.
-fn complaint(alloc: Global, status: u8, line: u64) -> Result<Option<String>, AllocError> {
+fn complaint(alloc: Global, status: u8, line: u64) -> Result<Option<String>, AllocError>
+    ensures { IfOk result (λ told. option_map (λ text. string_bytes text) told ≡ complaint_of status line) }
+{
     let text = match (status, line) {
         (2, 0) => String::from_str(alloc, "iris: bad words")?,
         (2, line) => format!(in alloc; "iris: line {line} is no request")?,
         (3, _) => String::from_str(alloc, "iris: the script can't be read")?,
         (4, _) => String::from_str(alloc, "iris: the output can't be written")?,
-        (7, _) => String::from_str(alloc, "iris: the script is too long")?,
+        (7, 0) => String::from_str(alloc, "iris: the script is too long")?,
+        (7, line) => format!(in alloc; "iris: line {line} names a client above 16")?,
         (8, _) => String::from_str(alloc, "iris: out of memory")?,
         _ => return Ok(None),
     };
@@ -62,7 +76,9 @@ fn arguments(rt: &HostRuntime) -> io::Result<Vec<String>> {
 }
 
 // The words as texts that are lent.
-fn lent<'a>(alloc: Global, words: &'a [String]) -> Result<Vec<&'a str>, AllocError> {
+fn lent<'a>(alloc: Global, words: &'a [String]) -> Result<Vec<&'a str>, AllocError>
+    ensures { IfOk result (λ texts. map (λ text. text.now) texts.items ≡ map (λ word. string_bytes word) words.now) }
+{
     let mut texts = Vec::new(alloc);
     for word in words {
         texts.push(word.as_str())?;
@@ -70,8 +86,11 @@ fn lent<'a>(alloc: Global, words: &'a [String]) -> Result<Vec<&'a str>, AllocErr
     Ok(texts)
 }
 
-// Serves the words over a folder, and answers status and line.
-fn serve(rt: &HostRuntime, folder: &str, words: &[&str]) -> Result<(u8, u64), AllocError> {
+// Serves block registers over a folder, and answers status and line.
+fn serve_registers(rt: &HostRuntime, folder: &str, words: &[&str]) -> Result<(u8, u64), AllocError>
+    ensures statuses { IfOk result (λ ended. IsStatus ended.0) }
+    ensures bad_words { IfOk result (λ ended. ((ended.0 ≡ 2) × (ended.1 ≡ 0)) ↔ HasNoKey (map (λ w. w.now) words.now)) }
+{
     let alloc = rt.alloc();
     let folder = Text::of(String::from_str(alloc, folder)?);
     let link = Told::new(alloc, FileStore::at(*rt, folder));
@@ -94,8 +113,23 @@ fn serve(rt: &HostRuntime, folder: &str, words: &[&str]) -> Result<(u8, u64), Al
     Ok((status, line))
 }
 
+// Serves the words over a folder, and answers status and line.
+fn serve(rt: &HostRuntime, folder: &str, words: &[&str]) -> Result<(u8, u64), AllocError>
+    ensures statuses { IfOk result (λ ended. IsStatus ended.0) }
+    ensures bad_words { IfOk result (λ ended. ((ended.0 ≡ 2) × (ended.1 ≡ 0)) ↔ HasNoCommand (map (λ w. w.now) words.now)) }
+{
+    let Some(_) = read_command("plain", words) else {
+        return serve_registers(rt, folder, words);
+    };
+    let mut script = StdSource::new(*rt);
+    let mut out = StdSink::new(*rt);
+    Ok(plain_run(rt.alloc(), words, &mut script, &mut out))
+}
+
 // Status and line of a command line.
-fn start(rt: &HostRuntime) -> (u8, u64) {
+fn start(rt: &HostRuntime) -> (u8, u64)
+    ensures { (result.0 ≤ 4) ⊎ (result.0 ≡ 7) ⊎ (result.0 ≡ 8) }
+{
     let alloc = rt.alloc();
     let Ok(owned) = arguments(rt) else {
         return (2, 0);

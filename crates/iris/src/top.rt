@@ -1,25 +1,17 @@
 //! The top call: a script of the block registers, from bytes in to bytes out.
 
-ghost use Rattle.std.specs.Prelude.{◌≡◌, ◌≢◌, ◌⊎◌, ◌↔◌, ◌<◌, ◌≤◌, ℕ, List, [], ◌∷◌, length, map, take, Option, Some, None, IfSome, IsTrue, true, false};
-ghost use Rattle.iris_name.specs.declared.note.Note.{Note as SpecNote};
-ghost use Rattle.iris_name.specs.declared.request.Request.{Request as SpecRequest};
-ghost use Rattle.iris_name.specs.History.{past_of};
-ghost use Rattle.iris_name.specs.Hmac.{block_key};
+ghost use Rattle.std.specs.Prelude.{◌≡◌, ◌≢◌, ◌⊎◌, ◌↔◌, ◌≤◌, ℕ, List, map, take, IfSome, IsTrue};
 ghost use Rattle.iris_name.specs.Told.{extended};
-ghost use Rattle.iris_script.specs.Cuts.{lines_of};
-ghost use Rattle.iris.specs.Lines.{AllSpell, IsFirstBad};
 ghost use Rattle.iris.specs.Notes.{AllBy, requests_of, replies_of, transfers_of, any_refused, printed};
 ghost use Rattle.iris.specs.Outside.{IsFault};
-ghost use Rattle.iris.specs.Reading.{HasMoreThan};
-ghost use Rattle.iris.specs.Registers.{Bad};
 ghost use Rattle.iris.specs.Run.{IsEnd, status_of, line_of};
-ghost use Rattle.iris.specs.Top.{IsFresh, IsPrinted, IsServed, IsUnbegun, IsUnread, IsSilent, WasRead, AreFirst, IsBadOrLegal, HasItsTransfers, HasNoKey, AnyOther};
+ghost use Rattle.iris.specs.Top.{IsFresh, IsPrinted, IsServed, IsUnbegun, IsSilent, WasRead, WentOn, AreFirst, IsBadOrLegal, HasItsTransfers, HasNoKey, HasBadLine, IsTooLong, IsInForm, IsDoneIfHonest};
 ghost use Rattle.iris.specs.Words.{AreWords};
 
 use crate::line::{LineError, read_lines};
 use crate::outcome::Registers;
 use crate::outside::{Sink, Source};
-use crate::reading::{ReadError, SCRIPT_LEN, read_all};
+use crate::reading::{ReadError, read_all};
 use crate::session::serve_all;
 use crate::words::read_words;
 use iris_log::Log;
@@ -30,7 +22,7 @@ use std::alloc::Global;
 
 // Why a run stops before its replies are printed.
 #[derive(Clone, Copy, Debug)]
-enum Stop {
+pub enum Stop {
     BadWords,
     BadLine { line: u64 },
     Unread,
@@ -104,7 +96,7 @@ fn run<R: Source, W: Sink, S: Store, G: Log>(
 }
 
 // The status by which a run ends.
-fn status(ended: &Result<bool, Stop>) -> u8
+pub fn status(ended: &Result<bool, Stop>) -> u8
     ensures { result ≡ status_of ended.now }
 {
     match ended {
@@ -119,7 +111,7 @@ fn status(ended: &Result<bool, Stop>) -> u8
 }
 
 // The line that is no request, or 0.
-fn line(ended: &Result<bool, Stop>) -> u64
+pub fn line(ended: &Result<bool, Stop>) -> u64
     ensures { result ≡ line_of ended.now }
 {
     match ended {
@@ -159,15 +151,16 @@ pub fn registers<R: Source, W: Sink, S: Store, G: Log>(
     // One put after each write's call, one get before the call of each read of a place that is clean there, and no other.
     ensures shaped { IsServed result.status → IfSome (G.notes result.log) (HasItsTransfers (map (λ w. w.now) words.now)) }
 
-    // Each status, by its cause.
+    // Each status, by its cause. A source that failed and want of memory come before a bad line and a long script, which
+    // else come exactly where they stand.
     ensures bad_words { ((result.status ≡ 2) × (result.line ≡ 0)) ↔ HasNoKey (map (λ w. w.now) words.now) }
-    ensures bad_line { result.status ≡ 2 → result.line ≢ 0 → IfSome (R.left script.old) (λ bytes. IsFirstBad (lines_of bytes) result.line) }
+    ensures bad_line { IfSome (R.left script.old) (λ bytes. (n : ℕ) → n ≢ 0 → WentOn result.status → ((result.status ≡ 2) × (result.line ≡ n)) ↔ HasBadLine (map (λ w. w.now) words.now) bytes n) }
+    ensures other_lines { result.status ≢ 2 → result.line ≡ 0 }
     ensures unread { result.status ≡ 3 → IsFault (R.faults script.old) (R.faults script.new) }
     ensures unwritten { result.status ≡ 4 → IsFault (W.faults out.old) (W.faults out.new) }
-    ensures too_long { result.status ≡ 7 → HasMoreThan (R.left script.old) SCRIPT_LEN }
-    ensures limit { IfSome (R.left script.old) (λ bytes. SCRIPT_LEN < length bytes → IsUnread result.status result.line) }
+    ensures too_long { IfSome (R.left script.old) (λ bytes. WentOn result.status → (result.status ≡ 7) ↔ IsTooLong (map (λ w. w.now) words.now) bytes) }
     ensures statuses { (result.status ≤ 4) ⊎ (result.status ≡ 7) ⊎ (result.status ≡ 8) }
-    ensures honest { (master bytes : List ℕ) (requests : List SpecRequest) (notes : List SpecNote) → AreWords (map (λ w. w.now) words.now) master → R.left script.old ≡ Some bytes → length bytes ≤ SCRIPT_LEN → AllSpell (lines_of bytes) requests → G.notes result.log ≡ Some notes → (IsFault (R.faults script.old) (R.faults script.new) → ⊥) → (IsFault (W.faults out.old) (W.faults out.new) → ⊥) → (IsFault (S.faults link) (S.faults result.link) → ⊥) → (AnyOther (past_of (notes ∷ [])) → ⊥) → (result.status ≡ 0) ⊎ (result.status ≡ 8) ⊎ Bad (block_key master) (past_of (notes ∷ [])) }
+    ensures honest { (master : List ℕ) → AreWords (map (λ w. w.now) words.now) master → IsInForm (R.left script.old) → ¬ IsFault (R.faults script.old) (R.faults script.new) → ¬ IsFault (W.faults out.old) (W.faults out.new) → ¬ IsFault (S.faults link) (S.faults result.link) → IfSome (G.notes result.log) (IsDoneIfHonest master result.status) }
 
     // What a run leaves that ends early.
     ensures unbegun { IsUnbegun result.status → (G.notes result.log ≡ G.notes log) × (S.traffic result.link ≡ S.traffic link) }

@@ -1,7 +1,7 @@
 //! The words of the command line.
 
 ghost use Rattle.std.specs.Prelude.{ℕ, List, map, IfSome, IfNone};
-ghost use Rattle.iris.specs.Words.{AreWords, IsKey};
+ghost use Rattle.iris.specs.Words.{AreWords, IsCommand, IsKey};
 
 use hex::FromHex;
 
@@ -13,15 +13,23 @@ fn read_key(digits: &str) -> Option<[u8; 32]>
     <[u8; 32] as FromHex>::from_hex(digits).ok()
 }
 
-/// The master key that the words give: they are `registers` and its 64 hexadecimal digits of either case.
+/// The master key that a command's words give: they are the command and the key's 64 hexadecimal digits of either case.
+pub fn read_command(command: &str, words: &[&str]) -> Option<[u8; 32]>
+    ensures some { IfSome result (λ master. IsCommand command.now (map (λ word. word.now) words.now) master) }
+    ensures none { IfNone result ((master : List ℕ) → IsCommand command.now (map (λ word. word.now) words.now) master → ⊥) }
+{
+    match words {
+        [first, digits] if *first == command => read_key(digits),
+        _ => None,
+    }
+}
+
+/// The master key that the words give: they are `registers` and its digits.
 pub fn read_words(words: &[&str]) -> Option<[u8; 32]>
     ensures some { IfSome result (λ master. AreWords (map (λ word. word.now) words.now) master) }
     ensures none { IfNone result ((master : List ℕ) → AreWords (map (λ word. word.now) words.now) master → ⊥) }
 {
-    match words {
-        [command, digits] if *command == "registers" => read_key(digits),
-        _ => None,
-    }
+    read_command("registers", words)
 }
 
 #[cfg(test)]

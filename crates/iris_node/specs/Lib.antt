@@ -9,3 +9,4 @@ pub mod Whole
 pub mod Laws
 pub mod Unfolded
 pub mod Local
+pub mod Trees

@@ -13,8 +13,8 @@ fn taken(alloc: Global, bytes: &mut Bytes) -> Vec<u8>
     std::mem::replace(bytes, Bytes::of(Vec::new(alloc))).into_vec()
 }
 
-// Writes a piece over bytes that it fits in.
-fn copy_at(held: &mut [u8], at: usize, piece: &[u8])
+/// Writes a piece over bytes that it fits in.
+pub fn copy_at(held: &mut [u8], at: usize, piece: &[u8])
     requires { at + length piece.now ≤ length held.old }
     ensures { held.new ≡ take at held.old ++ (piece.now ++ drop (at + length piece.now) held.old) }
 {

@@ -46,8 +46,8 @@ pub struct Entry {
     pub kind: Kind,
 }
 
-// Whether two names are one.
-fn is_name(a: &Text, b: &Text) -> bool
+/// Whether two names are one.
+pub fn is_name(a: &Text, b: &Text) -> bool
     ensures { result ≡ bytes_eq a.now b.now }
 {
     a.as_str() == b.as_str()
@@ -234,8 +234,8 @@ pub fn next_name<'a>(entries: &'a [Entry], names: &[Text], after: &Text) -> Opti
     best
 }
 
-// The better of a name and the best so far: greater than `after`, and least of these.
-fn lesser<'a>(after: &Text, name: &'a Text, best: Option<&'a Text>) -> Option<&'a Text>
+/// The better of a name and the best so far: greater than `after`, and least of these.
+pub fn lesser<'a>(after: &Text, name: &'a Text, best: Option<&'a Text>) -> Option<&'a Text>
     ensures { (there : List ℕ → Bool) → MatchOption best.entry (NoneLater there after.now) (λ b. IsNext there after.now b.now)
         → MatchOption result (NoneLater (λ m. there m || bytes_eq m name.now) after.now) (λ b. IsNext (λ m. there m || bytes_eq m name.now) after.now b.now) }
 {

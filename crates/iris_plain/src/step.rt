@@ -38,8 +38,8 @@ impl Model for Plain {
     ghost view = { λ a. record { entries = a.entries.items; age = a.age } };
 }
 
-// The path of a text, none where it has none.
-fn read_path(alloc: Global, text: &Text) -> Result<Option<Path>, NoMemory>
+/// The path of a text, none where it has none.
+pub fn read_path(alloc: Global, text: &Text) -> Result<Option<Path>, NoMemory>
     ensures { IfOk result (λ path. names_of text.now ≡ path) }
 {
     match Path::read(alloc, text) {
@@ -49,8 +49,8 @@ fn read_path(alloc: Global, text: &Text) -> Result<Option<Path>, NoMemory>
     }
 }
 
-// The path of the directory above.
-fn above(names: &[Text]) -> &[Text]
+/// The path of the directory above.
+pub fn above(names: &[Text]) -> &[Text]
     ensures { result.now ≡ parent names.now }
 {
     if names.is_empty() {

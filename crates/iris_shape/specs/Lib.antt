@@ -7,3 +7,4 @@ pub mod Order
 pub mod TreapLaws
 pub mod Rows
 pub mod Shaped
+pub mod Sides

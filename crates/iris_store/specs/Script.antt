@@ -1,5 +1,5 @@
 -- Which deed of a list answers a call of a store, what it answers, and which deeds are left.
-use Rattle.std.specs.Prelude.{◌≡◌, ◌⊎◌, ℕ, ◌-◌, ◌==◌, ◌||◌, ◌&&◌, nat_le, not, Bool, true, false, List, map, filter, find, take, Option, Some, None, Result, Ok, Err, if◌then◌else◌}
+use Rattle.std.specs.Prelude.{◌≡◌, ◌⊎◌, ℕ, ◌-◌, ◌==◌, ◌&&◌, nat_le, not, Bool, true, false, List, map, filter, find, take, Option, Some, None, Result, Ok, Err, if◌then◌else◌}
 use Rattle.std.specs.Option.{option_map}
 use Rattle.iris_name.specs.Names.{same_name}
 use Rattle.iris_name.specs.declared.name.Name.{Name}

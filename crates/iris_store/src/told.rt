@@ -1,7 +1,7 @@
 //! A store that keeps the traffic of another.
 
-ghost use Rattle.std.specs.Prelude.{◌≡◌, [], Option, Some, None, IfOk, IfErr};
-ghost use Rattle.iris_store.specs.Traffic.{answer_in, taken_in};
+ghost use Rattle.std.specs.Prelude.{◌≡◌, ◌≢◌, [], Option, Some, None, Err, IfOk, IfErr};
+ghost use Rattle.iris_store.specs.Traffic.{answer_in, taken_in, after_get, after_put, after_discard, IsCaused, IsShort};
 
 use crate::{Store, StoreError, Transfer};
 use iris_name::{Answer, Bytes, Name};
@@ -73,7 +73,12 @@ impl<S: Store> Store for Told<S> {
 
     ghost traffic = { λ s. Some s.1 };
 
-    fn get(&mut self, alloc: Global, name: &Name) -> Result<Option<Bytes>, StoreError> {
+    fn get(&mut self, alloc: Global, name: &Name) -> Result<Option<Bytes>, StoreError>
+        ensures traffic { Some self.new.1 ≡ after_get (Some self.old.1) name.now result }
+        ensures cause { IsCaused (S.faults self.old.0) (S.faults self.new.0) result }
+        ensures short { IsShort result }
+        ensures passed { result ≢ Err StoreError.NoMemory → S.traffic self.new.0 ≡ after_get (S.traffic self.old.0) name.now result }
+    {
         self.told.reserve(1)?;
         let given = self.inner.get(alloc, name);
         let answer = answer_of(alloc, &given)?;
@@ -84,7 +89,11 @@ impl<S: Store> Store for Told<S> {
         given
     }
 
-    fn put(&mut self, alloc: Global, name: &Name, bytes: &[u8]) -> Result<(), StoreError> {
+    fn put(&mut self, alloc: Global, name: &Name, bytes: &[u8]) -> Result<(), StoreError>
+        ensures traffic { Some self.new.1 ≡ after_put (Some self.old.1) name.now bytes.now result }
+        ensures cause { IsCaused (S.faults self.old.0) (S.faults self.new.0) result }
+        ensures passed { result ≢ Err StoreError.NoMemory → S.traffic self.new.0 ≡ after_put (S.traffic self.old.0) name.now bytes.now result }
+    {
         self.told.reserve(1)?;
         let copy = Bytes::of(bytes.to_vec(alloc)?);
         let given = self.inner.put(alloc, name, bytes);
@@ -97,7 +106,11 @@ impl<S: Store> Store for Told<S> {
         given
     }
 
-    fn discard(&mut self, alloc: Global, name: &Name) -> Result<(), StoreError> {
+    fn discard(&mut self, alloc: Global, name: &Name) -> Result<(), StoreError>
+        ensures traffic { Some self.new.1 ≡ after_discard (Some self.old.1) name.now result }
+        ensures cause { IsCaused (S.faults self.old.0) (S.faults self.new.0) result }
+        ensures passed { result ≢ Err StoreError.NoMemory → S.traffic self.new.0 ≡ after_discard (S.traffic self.old.0) name.now result }
+    {
         self.told.reserve(1)?;
         let given = self.inner.discard(alloc, name);
         let ok = taken(&given)?;

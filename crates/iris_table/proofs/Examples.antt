@@ -7,6 +7,10 @@ use Rattle.iris_name.specs.Paths.{names_of}
 use Rattle.iris_table.specs.Rows.{File, Rows, End, Row, Table, Found, Here, Missing, Through, met, empty_table}
 use Rattle.iris_table.specs.Changes.{trash_name}
 use Rattle.iris_table.specs.Ages.{after}
+use Rattle.iris_table.specs.Shown.{shown, directory}
+use Rattle.iris_node.specs.Unfolded.{Unfolded, Absent, Folder, Stored}
+use Rattle.iris_name.specs.declared.name.FileId.{FileId}
+use Rattle.iris_name.specs.declared.name.Name.TheVariants.{Entry, Block}
 
 abbrev of_file : Option File → ℕ → ℕ
 of_file None p = 0
@@ -94,3 +98,23 @@ dotted_left = (refl, refl, refl, refl, refl, refl, refl)
 -- the name in the trash
 digits : trash_name 0x1a2b ≡ codes "0000000000001a2b"
 digits = refl
+
+abbrev id : ℕ → FileId
+id n = record { 0 = n }
+
+-- the version of what a name stands for as a block
+abbrev stored : Option Unfolded → ℕ
+stored (Some (Stored version bytes)) = version
+stored o = 0
+
+-- at the beginning the two roots live, and nothing else
+fresh_shown : (order : List ℕ) → (shown order empty_table (Entry (id 0)) ≡ Some (Folder 0 [] Absent Absent Absent))
+    × (shown order empty_table (Entry (id 1)) ≡ Some (Folder 1 [] Absent Absent Absent)) × (shown order empty_table (Entry (id 2)) ≡ None) × (shown order empty_table (Block (id 2) 0) ≡ None)
+unfolding shown directory
+fresh_shown order = (refl, refl, refl, refl)
+
+-- a hole is no block; a file in the trash keeps its blocks
+gap_shown : (order : List ℕ) → (shown order gap (Block (id 2) 0) ≡ None) × (stored (shown order gap (Block (id 2) 1)) ≡ 1)
+    × (stored (shown order (after gap (Remove (codes "/f") ∷ [])) (Block (id 2) 1)) ≡ 1)
+unfolding shown names_of
+gap_shown order = (refl, refl, refl)

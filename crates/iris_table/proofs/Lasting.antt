@@ -13,7 +13,7 @@ use Rattle.iris_table.specs.Changes.{written, cut, freed, filled, made, filed, r
 use Rattle.iris_table.specs.Sound.{times, IsSound, IsCounted, AllFiles, OnFile}
 use Rattle.iris_table.specs.Ages.{Has, Stands, IsLater, IsLaterPlace, Ages, after}
 use Rattle.iris_table.proofs.Aging.{has_times, has_one, Origin, AllOrigins, stood, origin_made, origin_filed, origin_reclaimed, any_removed, any_moved, any_emptied, later_written, later_cut}
-use Rattle.iris_table.proofs.Sounding.{sound_kept}
+use Rattle.iris_table.proofs.Staying.{sound_kept}
 
 stands_times : (t : Table) (i : ℕ) (f : File) → Stands i f t → 1 ≤ times i t.visible + times i t.trash
 stands_times t i f (inl h) = let k = has_times i f t.visible h in omega (arith, k)

@@ -5,13 +5,14 @@ use Rattle.std.specs.List.{list_all}
 use Rattle.iris_name.specs.declared.request.PlainError.{PlainError}
 use Rattle.iris_name.specs.declared.request.Request.{Request}
 use Rattle.iris_name.specs.declared.request.Request.TheVariants.{Mkdir, Create, Write, Read, Resize, Stat, List as ListNames, Rename, Remove, Sync, Root, Reclaim, Probe}
-use Rattle.iris_name.specs.Paths.{is_name, names_of}
+use Rattle.iris_name.specs.Paths.{names_of}
 use Rattle.iris_plain.specs.Routes.{parent, last, is_top, is_front, under}
 use Rattle.iris_plain.specs.Checks.{is_full, on_names, no_place, resize_checks, move_checks, size_of, blocks_of}
 use Rattle.iris_table.specs.Rows.{File, Rows, End, Row, Table, Taken, root, find, without, at, file_at, Found, Here, Missing, Through, met, empty_file, resolved, followed, entered}
 use Rattle.iris_table.specs.Changes.{written, cut, freed, filled, made, filed, gone, removed, moved, emptied, retrashed, reclaimed, seen_in, by_names, changed, stepped, table_verdict}
 use Rattle.iris_table.specs.View.{look, kind}
-use Rattle.iris_table.specs.Sound.{IsSound, IsOrdered}
+use Rattle.iris_table.specs.Sound.{is_step, IsOrdered}
+use Rattle.iris_table.proofs.Steadies.{Steady}
 use Rattle.iris_table.proofs.Held.{holding}
 use Rattle.iris_table.proofs.Emptied.{not_under_parent, under_self, parent_dir}
 use Rattle.iris_table.proofs.Agreeing.{places, moves, cleared_at, front, not_under, both_none}
@@ -20,9 +21,9 @@ use Rattle.iris_table.proofs.Rising.{ordered_at, ordered_without, ordered_file_a
 
 -- the names of an optional path keep the grammar
 abbrev pub AreNames : Option (List (List ℕ)) → Type 0
-AreNames o = (names : List (List ℕ)) → o ≡ Some names → list_all is_name names ≡ true
+AreNames o = (names : List (List ℕ)) → o ≡ Some names → list_all is_step names ≡ true
 
-ordered_here : (ns : List (List ℕ)) (from row : Taken) → resolved ns from ≡ Here row → IsOrdered from.inside → IsOrdered row.inside
+pub ordered_here : (ns : List (List ℕ)) (from row : Taken) → resolved ns from ≡ Here row → IsOrdered from.inside → IsOrdered row.inside
 ordered_here [] from row e d = let k : from ≡ row = cc in subst (λ r. IsOrdered r.inside) k d
 ordered_here (n ∷ ns) from row e d = by from.file (find n from.inside) refl e (ordered_here ns) where
   by : (file : Option File) (o : Option Taken) → find n from.inside ≡ o → entered file (followed o (λ below. resolved ns below)) ≡ Here row
@@ -52,7 +53,7 @@ on_removed t (Some names) d = by (met t names) where
   by Missing = d
   by Through = d
 
-moved_any : (t : Table) (n : List ℕ) (ns news : List (List ℕ)) → IsSound t → list_all is_name news ≡ true → IsOrdered t.visible → is_front (n ∷ ns) news ≡ false → no_place (seen_in t) (is_full t.age) news ≡ None
+moved_any : (t : Table) (n : List ℕ) (ns news : List (List ℕ)) → Steady t → list_all is_step news ≡ true → IsOrdered t.visible → is_front (n ∷ ns) news ≡ false → no_place (seen_in t) (is_full t.age) news ≡ None
     → IsOrdered (moved (n ∷ ns) news t (met t (n ∷ ns))).visible
 moved_any t n ns news s k d ahead e = by (met t (n ∷ ns)) refl where
   by : (f : Found) → met t (n ∷ ns) ≡ f → IsOrdered (moved (n ∷ ns) news t f).visible
@@ -66,7 +67,7 @@ moved_any t n ns news s k d ahead e = by (met t (n ∷ ns)) refl where
   by Missing h = d
   by Through h = d
 
-on_moved : (t : Table) (o k : Option (List (List ℕ))) → AreNames k → IsSound t → IsOrdered t.visible
+on_moved : (t : Table) (o k : Option (List (List ℕ))) → AreNames k → Steady t → IsOrdered t.visible
     → on_names o (λ olds. on_names k (λ news. move_checks (is_top olds) (seen_in t olds) (is_front olds news) (no_place (seen_in t) (is_full t.age) news))) ≡ None
     → IsOrdered (by_names t o (λ olds. by_names t k (λ news. moved olds news t (met t olds)))).visible
 on_moved t None k m s d e = d
@@ -81,7 +82,7 @@ on_written t (Some names) offset bytes d = by (length bytes == 0) where
   by true = d
   by false = ordered_filed t names (written offset bytes) d
 
-emptied_any : (t : Table) (n : List ℕ) (ns : List (List ℕ)) → IsSound t → list_all is_name (n ∷ ns) ≡ true → IsOrdered t.visible → IsOrdered (emptied (n ∷ ns) t (met t (n ∷ ns))).visible
+emptied_any : (t : Table) (n : List ℕ) (ns : List (List ℕ)) → Steady t → list_all is_step (n ∷ ns) ≡ true → IsOrdered t.visible → IsOrdered (emptied (n ∷ ns) t (met t (n ∷ ns))).visible
 emptied_any t n ns s k d = by (met t (n ∷ ns)) refl where
   by : (f : Found) → met t (n ∷ ns) ≡ f → IsOrdered (emptied (n ∷ ns) t f).visible
   by (Here row) h =
@@ -93,7 +94,7 @@ emptied_any t n ns s k d = by (met t (n ∷ ns)) refl where
   by Missing h = d
   by Through h = d
 
-on_resized : (t : Table) (o : Option (List (List ℕ))) (size : ℕ) → AreNames o → IsSound t → IsOrdered t.visible → on_names o (λ names. resize_checks (seen_in t names) size (is_full t.age)) ≡ None
+on_resized : (t : Table) (o : Option (List (List ℕ))) (size : ℕ) → AreNames o → Steady t → IsOrdered t.visible → on_names o (λ names. resize_checks (seen_in t names) size (is_full t.age)) ≡ None
     → IsOrdered (by_names t o (λ names. cond (size == size_of (seen_in t names)) t (cond (size == 0) (emptied names t (met t names)) (filed (cut size) names t)))).visible
 on_resized t None size k s d e = d
 on_resized t (Some []) size k s d e = absurd (cc)
@@ -112,7 +113,7 @@ on_reclaimed t (Row id name (Some file) inside next) d = by (filled file.version
   by true = d
   by false = d
 
-changed_ordered : (t : Table) (r : Request) → IsSound t → IsOrdered t.visible → table_verdict t r ≡ None → IsOrdered (changed t r).visible
+changed_ordered : (t : Table) (r : Request) → Steady t → IsOrdered t.visible → table_verdict t r ≡ None → IsOrdered (changed t r).visible
 changed_ordered t (Mkdir path) s d e = on_made t (names_of path) None (names_are path) d e
 changed_ordered t (Create path) s d e = on_made t (names_of path) (Some empty_file) (names_are path) d e
 changed_ordered t (Write path offset bytes) s d e = on_written t (names_of path) offset bytes d
@@ -128,7 +129,7 @@ changed_ordered t Reclaim s d e = on_reclaimed t t.trash d
 changed_ordered t (Probe at) s d e = d
 
 -- the names of the next table rise
-pub ordered_kept : (t : Table) (r : Request) → IsSound t → IsOrdered t.visible → IsOrdered (stepped t r).visible
+pub ordered_kept : (t : Table) (r : Request) → Steady t → IsOrdered t.visible → IsOrdered (stepped t r).visible
 ordered_kept t r s d = by (table_verdict t r) refl where
   by : (v : Option PlainError) → table_verdict t r ≡ v → IsOrdered (cond (is_none v) (changed t r) t).visible
   by None e = changed_ordered t r s d e

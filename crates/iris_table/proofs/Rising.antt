@@ -1,7 +1,8 @@
 -- Each change of rows keeps the names of a directory rising.
 use Rattle.std.proofs.Common.{◌≡◌, ℕ, List, [], ◌∷◌, Bool, true, false, ◌&&◌, cond, Option, Some, None, refl, sym, ◌∙◌, ap, subst}
-use Rattle.std.specs.List.{list_all, slice_split}
-use Rattle.std.specs.Prelude.{nat_lt, codes, ◌==◌, length}
+use Rattle.std.specs.List.{list_all, slice_split, onto_first}
+use Rattle.std.proofs.lemmas.Bool.{and_parts}
+use Rattle.std.specs.Prelude.{nat_lt, not, codes, ◌==◌, length}
 use Rattle.std.specs.Str.{bytes_eq}
 use Rattle.std.specs.Ordering.{nat_cmp, is_lt, is_eq, ordering_reverse}
 use Rattle.std.specs.declared.cmp.Ordering.{Ordering}
@@ -13,7 +14,7 @@ use Rattle.iris_plain.proofs.PageLaws.{before_trans}
 use Rattle.iris_plain.specs.declared.files.Kind.TheVariants.{Dir}
 use Rattle.iris_table.specs.Rows.{File, Rows, End, Row, Taken, find, put, without, at, file_at, on_file}
 use Rattle.iris_table.specs.View.{look, into, bound, kind}
-use Rattle.iris_table.specs.Sound.{IsAbove, IsOrdered}
+use Rattle.iris_table.specs.Sound.{is_step, has_no_slash, IsAbove, IsOrdered}
 use Rattle.iris_table.proofs.Looks.{none_of}
 use Rattle.iris_table.proofs.Finds.{past}
 
@@ -25,21 +26,21 @@ other_way Greater Less e n r = refl
 other_way Greater Equal e n r = absurd (cc)
 other_way Greater Greater e n r = absurd (cc)
 
-before_other : (a b : List ℕ) → before a b ≡ false → bytes_eq a b ≡ false → before b a ≡ true
+pub before_other : (a b : List ℕ) → before a b ≡ false → bytes_eq a b ≡ false → before b a ≡ true
 before_other a b e d = other_way (slice_cmp nat_cmp a b) (slice_cmp nat_cmp b a) e (λ x. let k = texts_ties a b in let h : bytes_eq a b ≡ true = k ∙ ap is_eq x in absurd (let y = sym d ∙ h in cc)) (nat_list_cmp_total.antisymm a b)
 
 above_from : (a b : List ℕ) (rows : Rows) → before a b ≡ true → IsAbove b rows → IsAbove a rows
 above_from a b End e h = tt
 above_from a b (Row id name file inside next) e h = before_trans a b name e h
 
-above_put : (a n : List ℕ) (new : Taken) (rows : Rows) → before a n ≡ true → IsAbove a rows → IsAbove a (put n new rows)
+pub above_put : (a n : List ℕ) (new : Taken) (rows : Rows) → before a n ≡ true → IsAbove a rows → IsAbove a (put n new rows)
 above_put a n new End e h = e
 above_put a n new (Row id name file inside next) e h = by (before n name) where
   by : (b : Bool) → IsAbove a (cond b (Row new.id n new.file new.inside (Row id name file inside next)) (Row id name file inside (put n new next)))
   by true = e
   by false = h
 
-pub ordered_put : (n : List ℕ) (new : Taken) (rows : Rows) → find n rows ≡ None → is_name n ≡ true → IsOrdered new.inside → IsOrdered rows → IsOrdered (put n new rows)
+pub ordered_put : (n : List ℕ) (new : Taken) (rows : Rows) → find n rows ≡ None → is_step n ≡ true → IsOrdered new.inside → IsOrdered rows → IsOrdered (put n new rows)
 ordered_put n new End f g h d = (g, tt, h, tt)
 ordered_put n new (Row id name file inside next) f g h d = let p = past (bytes_eq n name) _ _ f in by (before n name) refl p.0 (ordered_put n new next p.1 g h d.3) where
   by : (b : Bool) → before n name ≡ b → bytes_eq n name ≡ false → IsOrdered (put n new next) → IsOrdered (cond b (Row new.id n new.file new.inside (Row id name file inside next)) (Row id name file inside (put n new next)))
@@ -105,7 +106,7 @@ ordered_one n ns f (Row id name file inside next) below e k d = by (bytes_eq n n
   by false e g = (d.0, above_at name n ns f next d.1, d.2, g e)
 
 -- a row put under a path that is free, in a directory that is there
-pub ordered_put_at : (names : List (List ℕ)) (new row : Taken) → look (parent names) row ≡ Some Dir → look names row ≡ None → list_all is_name names ≡ true → IsOrdered new.inside → IsOrdered row.inside
+pub ordered_put_at : (names : List (List ℕ)) (new row : Taken) → look (parent names) row ≡ Some Dir → look names row ≡ None → list_all is_step names ≡ true → IsOrdered new.inside → IsOrdered row.inside
     → IsOrdered (at (parent names) (put (last names) new) row.inside)
 ordered_put_at [] new row d e g h k = absurd (cc)
 ordered_put_at (n ∷ []) new row d e g h k = by row.file d e where
@@ -114,10 +115,10 @@ ordered_put_at (n ∷ []) new row d e g h k = by row.file d e where
   named false e = absurd (cc)
 
   by : (file : Option File) → Some (kind file) ≡ Some Dir → into file (bound (find n row.inside) (λ below. Some (kind below.file))) ≡ None → IsOrdered (put n new row.inside)
-  by None d e = ordered_put n new row.inside (none_of _ e) (named (is_name n) g) h k
+  by None d e = ordered_put n new row.inside (none_of _ e) (named (is_step n) g) h k
   by (Some f) d e = absurd (cc)
-ordered_put_at (n ∷ m ∷ ns) new row d e g h k = by row.file (find n row.inside) refl d e (λ below d e. ordered_put_at (m ∷ ns) new below d e (rest (is_name n) g)) where
-  rest : (b : Bool) → b && list_all is_name (m ∷ ns) ≡ true → list_all is_name (m ∷ ns) ≡ true
+ordered_put_at (n ∷ m ∷ ns) new row d e g h k = by row.file (find n row.inside) refl d e (λ below d e. ordered_put_at (m ∷ ns) new below d e (rest (is_step n) g)) where
+  rest : (b : Bool) → b && list_all is_step (m ∷ ns) ≡ true → list_all is_step (m ∷ ns) ≡ true
   rest true e = e
   rest false e = absurd (cc)
 
@@ -128,25 +129,46 @@ ordered_put_at (n ∷ m ∷ ns) new row d e g h k = by row.file (find n row.insi
   by None None x d e ih = absurd (cc)
   by None (Some below) x d e ih = ordered_one n (parent (m ∷ ns)) _ row.inside below x (ih below d e h (ordered_in n row.inside below x k)) k
 
+-- the pieces between slashes have no slash
+pieces_free : (text : List ℕ) → list_all has_no_slash (slice_split (λ b. b == 47) text) ≡ true
+pieces_free [] = refl
+pieces_free (x ∷ xs) = by (x == 47) refl (slice_split (λ b. b == 47) xs) (pieces_free xs) where
+  front : (b : Bool) (p : List ℕ) (ps : List (List ℕ)) → not b ≡ true → has_no_slash p && list_all has_no_slash ps ≡ true → (not b && has_no_slash p) && list_all has_no_slash ps ≡ true
+  front false p ps e h = h
+  front true p ps e h = absurd (cc)
+
+  by : (b : Bool) → (x == 47) ≡ b → (pieces : List (List ℕ)) → list_all has_no_slash pieces ≡ true → list_all has_no_slash (cond b ([] ∷ pieces) (onto_first x pieces)) ≡ true
+  by true e pieces h = h
+  by false e [] h = rw e refl
+  by false e (p ∷ ps) h = front (x == 47) p ps (rw e refl) h
+
+both_tests : (names : List (List ℕ)) → list_all is_name names ≡ true → list_all has_no_slash names ≡ true → list_all is_step names ≡ true
+both_tests [] h k = refl
+both_tests (n ∷ names) h k =
+    let a = and_parts (is_name n) (list_all is_name names) h in
+    let b = and_parts (has_no_slash n) (list_all has_no_slash names) k in
+    rw (a.0, b.0) (both_tests names a.1 b.1)
+
 -- the names of a path text keep the grammar
-slashed_are : (pieces names : List (List ℕ)) → slashed_names pieces ≡ Some names → list_all is_name names ≡ true
-slashed_are [] names e = absurd (cc)
-slashed_are (front ∷ []) names e = absurd (cc)
-slashed_are (front ∷ name ∷ more) names e = by (length front == 0) (list_all is_name (name ∷ more)) refl e where
-  by : (a b : Bool) → list_all is_name (name ∷ more) ≡ b → cond (a && b) (Some (name ∷ more)) None ≡ Some names → list_all is_name names ≡ true
-  by true true x e = let k : (name ∷ more) ≡ names = inside (name ∷ more) names e in subst (λ z. list_all is_name z ≡ true) k x where
-    inside : (a b : List (List ℕ)) → Some a ≡ Some b → a ≡ b
-    inside a b e = cc
+slashed_are : (pieces names : List (List ℕ)) → list_all has_no_slash pieces ≡ true → slashed_names pieces ≡ Some names → list_all is_step names ≡ true
+slashed_are [] names f e = absurd (cc)
+slashed_are (front ∷ []) names f e = absurd (cc)
+slashed_are (front ∷ name ∷ more) names f e = by (length front == 0) (list_all is_name (name ∷ more)) refl e where
+  inside : (a b : List (List ℕ)) → Some a ≡ Some b → a ≡ b
+  inside a b e = cc
+
+  by : (a b : Bool) → list_all is_name (name ∷ more) ≡ b → cond (a && b) (Some (name ∷ more)) None ≡ Some names → list_all is_step names ≡ true
+  by true true x e = subst (λ z. list_all is_step z ≡ true) (inside (name ∷ more) names e) (both_tests (name ∷ more) x (and_parts (has_no_slash front) (list_all has_no_slash (name ∷ more)) f).1)
   by true false x e = absurd (cc)
   by false b x e = absurd (cc)
 
-pub names_are : (text : List ℕ) (names : List (List ℕ)) → names_of text ≡ Some names → list_all is_name names ≡ true
+pub names_are : (text : List ℕ) (names : List (List ℕ)) → names_of text ≡ Some names → list_all is_step names ≡ true
 unfolding names_of
 names_are text names e = by (nat_lt 4096 (length text)) (bytes_eq text (codes "/")) e where
   none : (a b : List (List ℕ)) → Some a ≡ Some b → a ≡ b
   none a b e = cc
 
-  by : (a b : Bool) → cond a None (cond b (Some []) (slashed_names (slice_split (λ b. b == 47) text))) ≡ Some names → list_all is_name names ≡ true
+  by : (a b : Bool) → cond a None (cond b (Some []) (slashed_names (slice_split (λ b. b == 47) text))) ≡ Some names → list_all is_step names ≡ true
   by true b e = absurd (cc)
-  by false true e = subst (λ z. list_all is_name z ≡ true) (none [] names e) refl
-  by false false e = slashed_are (slice_split (λ b. b == 47) text) names e
+  by false true e = subst (λ z. list_all is_step z ≡ true) (none [] names e) refl
+  by false false e = slashed_are (slice_split (λ b. b == 47) text) names (pieces_free text) e

@@ -15,7 +15,8 @@ use Rattle.iris_plain.specs.declared.files.Kind.TheVariants.{Dir}
 use Rattle.iris_table.specs.Rows.{File, Rows, End, Row, Table, Taken, root, find, put, without, at, file_at, Found, Here, Missing, Through, met, empty_file, empty_table, resolved, followed, entered}
 use Rattle.iris_table.specs.Changes.{written, cut, freed, filled, made, filed, gone, thrown, removed, moved, emptied, retrashed, reclaimed, seen_in, by_names, changed, stepped, table_verdict, trash_name}
 use Rattle.iris_table.specs.View.{look, kind}
-use Rattle.iris_table.specs.Sound.{IsDistinct, IsGood, AreGood, IsCounted, OnFile, AllFiles, times, IsSound}
+use Rattle.iris_table.specs.Sound.{IsDistinct, IsGood, AreGood, IsCounted, OnFile, AllFiles, times}
+use Rattle.iris_table.proofs.Steadies.{Steady}
 use Rattle.iris_table.proofs.Held.{holding}
 use Rattle.iris_table.proofs.Looks.{distinct_in}
 use Rattle.iris_table.proofs.Emptied.{not_under_parent, under_self, parent_dir}
@@ -42,8 +43,8 @@ given_next : (i next n : ℕ) → 2 ≤ next → n ≤ Given i next → n + cond
 given_next i next n h k = grind (arith, nat_tests)
 
 -- a new row under a path, as its checks say
-made_sound : (t : Table) (names : List (List ℕ)) (file : Option File) → IsSound t → look (parent names) (root t) ≡ Some Dir → look names (root t) ≡ None → t.age + 1 ≤ 2 ^ 40
-    → IsGood file → OnFile (IsCounted (t.age + 1)) file → IsSound (made file names t)
+made_sound : (t : Table) (names : List (List ℕ)) (file : Option File) → Steady t → look (parent names) (root t) ≡ Some Dir → look names (root t) ≡ None → t.age + 1 ≤ 2 ^ 40
+    → IsGood file → OnFile (IsCounted (t.age + 1)) file → Steady (made file names t)
 made_sound t names file s d n a g c = record {
   distinct = distinct_put_at names (record { id = t.next; file = file; inside = End }) (root t) d n tt s.distinct;
   good = good_at_path (parent names) (put (last names) _) t.visible (λ inner k. good_put (last names) _ inner g tt k) s.good;
@@ -59,8 +60,8 @@ made_sound t names file s d n a g c = record {
 }
 
 -- a file changed
-filed_sound : (t : Table) (names : List (List ℕ)) (change : File → File) → IsSound t → t.age + 1 ≤ 2 ^ 40
-    → ((f : File) → IsGood (Some f) → IsGood (Some (change f))) → ((f : File) → IsCounted t.age f → IsCounted (t.age + 1) (change f)) → IsSound (filed change names t)
+filed_sound : (t : Table) (names : List (List ℕ)) (change : File → File) → Steady t → t.age + 1 ≤ 2 ^ 40
+    → ((f : File) → IsGood (Some f) → IsGood (Some (change f))) → ((f : File) → IsCounted t.age f → IsCounted (t.age + 1) (change f)) → Steady (filed change names t)
 filed_sound t names change s a g c = record {
   distinct = distinct_at (parent names) (file_at (last names) change) t.visible (λ inner d. distinct_file_at (last names) change inner d) s.distinct;
   good = good_at_path (parent names) (file_at (last names) change) t.visible (λ inner d. good_file_at (last names) change inner g d) s.good;
@@ -75,10 +76,10 @@ filed_sound t names change s a g c = record {
 }
 
 -- what lies under a path goes into the trash
-gone_sound : (t : Table) (n : List ℕ) (ns : List (List ℕ)) (row : Taken) → IsSound t → met t (n ∷ ns) ≡ Here row → (i : ℕ) → times i (gone (n ∷ ns) t) + (cond (i == row.id) 1 0 + times i row.inside) ≡ times i t.visible
+gone_sound : (t : Table) (n : List ℕ) (ns : List (List ℕ)) (row : Taken) → Steady t → met t (n ∷ ns) ≡ Here row → (i : ℕ) → times i (gone (n ∷ ns) t) + (cond (i == row.id) 1 0 + times i row.inside) ≡ times i t.visible
 gone_sound t n ns row s e i = times_gone i n ns (root t) row e
 
-removed_sound : (t : Table) (n : List ℕ) (ns : List (List ℕ)) (row : Taken) → IsSound t → met t (n ∷ ns) ≡ Here row → t.age + 1 ≤ 2 ^ 40 → IsSound (removed (n ∷ ns) t (Here row))
+removed_sound : (t : Table) (n : List ℕ) (ns : List (List ℕ)) (row : Taken) → Steady t → met t (n ∷ ns) ≡ Here row → t.age + 1 ≤ 2 ^ 40 → Steady (removed (n ∷ ns) t (Here row))
 removed_sound t n ns row s e a =
     let good = good_at (n ∷ ns) (root t) row e tt s.good in
     let counted = all_here (IsCounted (t.age + 1)) (n ∷ ns) (root t) row e tt (one_more t.visible t.age s.counted) in
@@ -96,8 +97,8 @@ removed_sound t n ns row s e a =
     }
 
 -- a row moves to another path, whose directory is there and which is free, once it is gone
-moved_sound : (t : Table) (n : List ℕ) (ns news : List (List ℕ)) (row : Taken) → IsSound t → met t (n ∷ ns) ≡ Here row → t.age + 1 ≤ 2 ^ 40
-    → look (parent news) (holding (gone (n ∷ ns) t) (root t)) ≡ Some Dir → look news (holding (gone (n ∷ ns) t) (root t)) ≡ None → IsDistinct row.inside → IsSound (moved (n ∷ ns) news t (Here row))
+moved_sound : (t : Table) (n : List ℕ) (ns news : List (List ℕ)) (row : Taken) → Steady t → met t (n ∷ ns) ≡ Here row → t.age + 1 ≤ 2 ^ 40
+    → look (parent news) (holding (gone (n ∷ ns) t) (root t)) ≡ Some Dir → look news (holding (gone (n ∷ ns) t) (root t)) ≡ None → IsDistinct row.inside → Steady (moved (n ∷ ns) news t (Here row))
 moved_sound t n ns news row s e a d f inner =
     let good = good_at (n ∷ ns) (root t) row e tt s.good in
     let counted = all_here (IsCounted (t.age + 1)) (n ∷ ns) (root t) row e tt (one_more t.visible t.age s.counted) in
@@ -119,8 +120,8 @@ moved_sound t n ns news row s e a d f inner =
     }
 
 -- a new file stands in place of a row that moves into the trash
-emptied_sound : (t : Table) (n : List ℕ) (ns : List (List ℕ)) (row : Taken) → IsSound t → met t (n ∷ ns) ≡ Here row → t.age + 1 ≤ 2 ^ 40
-    → look (parent (n ∷ ns)) (holding (gone (n ∷ ns) t) (root t)) ≡ Some Dir → look (n ∷ ns) (holding (gone (n ∷ ns) t) (root t)) ≡ None → IsSound (emptied (n ∷ ns) t (Here row))
+emptied_sound : (t : Table) (n : List ℕ) (ns : List (List ℕ)) (row : Taken) → Steady t → met t (n ∷ ns) ≡ Here row → t.age + 1 ≤ 2 ^ 40
+    → look (parent (n ∷ ns)) (holding (gone (n ∷ ns) t) (root t)) ≡ Some Dir → look (n ∷ ns) (holding (gone (n ∷ ns) t) (root t)) ≡ None → Steady (emptied (n ∷ ns) t (Here row))
 emptied_sound t n ns row s e a d f =
     let good = good_at (n ∷ ns) (root t) row e tt s.good in
     let counted = all_here (IsCounted (t.age + 1)) (n ∷ ns) (root t) row e tt (one_more t.visible t.age s.counted) in
@@ -143,7 +144,7 @@ emptied_sound t n ns row s e a d f =
     }
 
 -- another trash with no more ids
-retrashed_sound : (t : Table) (rows : Rows) → IsSound t → AreGood rows → AllFiles (IsCounted t.age) rows → ((i : ℕ) → times i rows ≤ times i t.trash) → IsSound (retrashed rows t)
+retrashed_sound : (t : Table) (rows : Rows) → Steady t → AreGood rows → AllFiles (IsCounted t.age) rows → ((i : ℕ) → times i rows ≤ times i t.trash) → Steady (retrashed rows t)
 retrashed_sound t rows s g c o = record {
   distinct = s.distinct;
   good = s.good;
@@ -157,7 +158,7 @@ retrashed_sound t rows s g c o = record {
   age = s.age;
 }
 
-reclaimed_sound : (t : Table) (rows : Rows) → IsSound t → AreGood rows → AllFiles (IsCounted t.age) rows → ((i : ℕ) → times i rows ≤ times i t.trash) → IsSound (reclaimed t rows)
+reclaimed_sound : (t : Table) (rows : Rows) → Steady t → AreGood rows → AllFiles (IsCounted t.age) rows → ((i : ℕ) → times i rows ≤ times i t.trash) → Steady (reclaimed t rows)
 reclaimed_sound t End s g c o = s
 reclaimed_sound t (Row id name None End next) s g c o = retrashed_sound t next s g.2 c.2 (λ i. (let h = o i in omega (arith, h)))
 reclaimed_sound t (Row id name None (Row i n file inside others) next) s g c o =
@@ -166,7 +167,7 @@ reclaimed_sound t (Row id name None (Row i n file inside others) next) s g c o =
     (all_put (IsCounted t.age) (trash_name i) (record { id = i; file = file; inside = inside }) (Row id name None others next) c.1.0 c.1.1 (tt, c.1.2, c.2))
     (λ j. (let h = o j in let p = times_put j (trash_name i) (record { id = i; file = file; inside = inside }) (Row id name None others next) in omega (arith, h, p)))
 reclaimed_sound t (Row id name (Some file) inside next) s g c o = by (filled file.version (blocks_of file.size) == 0) where
-  by : (b : Bool) → IsSound (cond b (retrashed next t) (retrashed (Row id name (Some (freed file)) inside next) t))
+  by : (b : Bool) → Steady (cond b (retrashed next t) (retrashed (Row id name (Some (freed file)) inside next) t))
   by true = retrashed_sound t next s g.2 c.2 (λ i. (let h = o i in omega (arith, h)))
   by false = retrashed_sound t (Row id name (Some (freed file)) inside next) s (good_freed file g.0, g.1, g.2) (counted_freed t.age file c.0, c.1, c.2) o
 
@@ -224,25 +225,25 @@ resize_full (AFile n) false same much full e z = by much full (rw z at e) where
   by true true e = absurd (cc)
   by false true e = absurd (cc)
 
-on_made : (t : Table) (o : Option (List (List ℕ))) (file : Option File) → IsSound t → IsGood file → OnFile (IsCounted (t.age + 1)) file → on_names o (no_place (seen_in t) (is_full t.age)) ≡ None
-    → IsSound (by_names t o (λ names. made file names t))
+on_made : (t : Table) (o : Option (List (List ℕ))) (file : Option File) → Steady t → IsGood file → OnFile (IsCounted (t.age + 1)) file → on_names o (no_place (seen_in t) (is_full t.age)) ≡ None
+    → Steady (by_names t o (λ names. made file names t))
 on_made t None file s g c e = s
 on_made t (Some names) file s g c e =
     let p = places (seen_in t (parent names)) (seen_in t names) (is_top names) (is_full t.age) e in
     made_sound t names file s (look_dir t (parent names) p.1) (look_none t names p.2) (room t.age (new_full (is_top names) (seen_in t (parent names)) (seen_in t names) (is_full t.age) e)) g c
 
-on_removed : (t : Table) (o : Option (List (List ℕ))) → IsSound t → on_names o (λ names. remove_checks (is_top names) (seen_in t names) (is_full t.age)) ≡ None → IsSound (by_names t o (λ names. removed names t (met t names)))
+on_removed : (t : Table) (o : Option (List (List ℕ))) → Steady t → on_names o (λ names. remove_checks (is_top names) (seen_in t names) (is_full t.age)) ≡ None → Steady (by_names t o (λ names. removed names t (met t names)))
 on_removed t None s e = s
 on_removed t (Some []) s e = absurd (cc)
 on_removed t (Some (n ∷ ns)) s e = by (met t (n ∷ ns)) refl where
-  by : (f : Found) → met t (n ∷ ns) ≡ f → IsSound (removed (n ∷ ns) t f)
+  by : (f : Found) → met t (n ∷ ns) ≡ f → Steady (removed (n ∷ ns) t f)
   by (Here row) h = removed_sound t n ns row s h (room t.age (remove_full false (seen_in t (n ∷ ns)) (is_full t.age) e))
   by Missing h = s
   by Through h = s
 
-moved_any : (t : Table) (n : List ℕ) (ns news : List (List ℕ)) → IsSound t → is_front (n ∷ ns) news ≡ false → no_place (seen_in t) (is_full t.age) news ≡ None → IsSound (moved (n ∷ ns) news t (met t (n ∷ ns)))
+moved_any : (t : Table) (n : List ℕ) (ns news : List (List ℕ)) → Steady t → is_front (n ∷ ns) news ≡ false → no_place (seen_in t) (is_full t.age) news ≡ None → Steady (moved (n ∷ ns) news t (met t (n ∷ ns)))
 moved_any t n ns news s ahead e = by (met t (n ∷ ns)) refl where
-  by : (f : Found) → met t (n ∷ ns) ≡ f → IsSound (moved (n ∷ ns) news t f)
+  by : (f : Found) → met t (n ∷ ns) ≡ f → Steady (moved (n ∷ ns) news t f)
   by (Here row) h =
       let p = places (seen_in t (parent news)) (seen_in t news) (is_top news) (is_full t.age) e in
       let u : under (n ∷ ns) (parent news) ≡ false = not_under _ (λ x. let y = front (n ∷ ns) news p.0 x in absurd (let z = sym ahead ∙ y in cc)) in
@@ -253,25 +254,25 @@ moved_any t n ns news s ahead e = by (met t (n ∷ ns)) refl where
   by Missing h = s
   by Through h = s
 
-on_moved : (t : Table) (o k : Option (List (List ℕ))) → IsSound t
+on_moved : (t : Table) (o k : Option (List (List ℕ))) → Steady t
     → on_names o (λ olds. on_names k (λ news. move_checks (is_top olds) (seen_in t olds) (is_front olds news) (no_place (seen_in t) (is_full t.age) news))) ≡ None
-    → IsSound (by_names t o (λ olds. by_names t k (λ news. moved olds news t (met t olds))))
+    → Steady (by_names t o (λ olds. by_names t k (λ news. moved olds news t (met t olds))))
 on_moved t None k s e = s
 on_moved t (Some olds) None s e = s
 on_moved t (Some []) (Some news) s e = absurd (cc)
 on_moved t (Some (n ∷ ns)) (Some news) s e = let p = moves (seen_in t (n ∷ ns)) false (is_front (n ∷ ns) news) _ e in moved_any t n ns news s p.2 p.3
 
-on_written : (t : Table) (o : Option (List (List ℕ))) (offset : ℕ) (bytes : List ℕ) → IsSound t → on_names o (λ names. write_checks (seen_in t names) offset (length bytes) (is_full t.age)) ≡ None
-    → IsSound (by_names t o (λ names. cond (length bytes == 0) t (filed (written offset bytes) names t)))
+on_written : (t : Table) (o : Option (List (List ℕ))) (offset : ℕ) (bytes : List ℕ) → Steady t → on_names o (λ names. write_checks (seen_in t names) offset (length bytes) (is_full t.age)) ≡ None
+    → Steady (by_names t o (λ names. cond (length bytes == 0) t (filed (written offset bytes) names t)))
 on_written t None offset bytes s e = s
 on_written t (Some names) offset bytes s e = elim (positive (length bytes)) [
   | inl z ↦ rw z s
   | inr z ↦ rw z.0 (filed_sound t names (written offset bytes) s (room t.age (write_full (seen_in t names) _ _ (is_full t.age) _ e z.0)) (λ f g. good-written offset bytes f z.1 g) (λ f c. counted_written t.age offset bytes f z.1 c))
 ]
 
-emptied_any : (t : Table) (n : List ℕ) (ns : List (List ℕ)) → IsSound t → t.age + 1 ≤ 2 ^ 40 → IsSound (emptied (n ∷ ns) t (met t (n ∷ ns)))
+emptied_any : (t : Table) (n : List ℕ) (ns : List (List ℕ)) → Steady t → t.age + 1 ≤ 2 ^ 40 → Steady (emptied (n ∷ ns) t (met t (n ∷ ns)))
 emptied_any t n ns s a = by (met t (n ∷ ns)) refl where
-  by : (f : Found) → met t (n ∷ ns) ≡ f → IsSound (emptied (n ∷ ns) t f)
+  by : (f : Found) → met t (n ∷ ns) ≡ f → Steady (emptied (n ∷ ns) t f)
   by (Here row) h =
       let there : look (n ∷ ns) (root t) ≡ Some (kind row.file) = look_resolved (n ∷ ns) (root t) ∙ ap kind_of h in
       emptied_sound t n ns row s h a
@@ -280,22 +281,22 @@ emptied_any t n ns s a = by (met t (n ∷ ns)) refl where
   by Missing h = s
   by Through h = s
 
-on_resized : (t : Table) (o : Option (List (List ℕ))) (size : ℕ) → IsSound t → on_names o (λ names. resize_checks (seen_in t names) size (is_full t.age)) ≡ None
-    → IsSound (by_names t o (λ names. cond (size == size_of (seen_in t names)) t (cond (size == 0) (emptied names t (met t names)) (filed (cut size) names t))))
+on_resized : (t : Table) (o : Option (List (List ℕ))) (size : ℕ) → Steady t → on_names o (λ names. resize_checks (seen_in t names) size (is_full t.age)) ≡ None
+    → Steady (by_names t o (λ names. cond (size == size_of (seen_in t names)) t (cond (size == 0) (emptied names t (met t names)) (filed (cut size) names t))))
 on_resized t None size s e = s
 on_resized t (Some []) size s e = absurd (cc)
 on_resized t (Some (n ∷ ns)) size s e = by (size == size_of (seen_in t (n ∷ ns))) refl where
-  by : (b : Bool) → (size == size_of (seen_in t (n ∷ ns))) ≡ b → IsSound (cond b t (cond (size == 0) (emptied (n ∷ ns) t (met t (n ∷ ns))) (filed (cut size) (n ∷ ns) t)))
+  by : (b : Bool) → (size == size_of (seen_in t (n ∷ ns))) ≡ b → Steady (cond b t (cond (size == 0) (emptied (n ∷ ns) t (met t (n ∷ ns))) (filed (cut size) (n ∷ ns) t)))
   by true x = s
   by false x = inner (size == 0) where
     a : t.age + 1 ≤ 2 ^ 40
     a = room t.age (resize_full (seen_in t (n ∷ ns)) _ _ _ (is_full t.age) e x)
 
-    inner : (b : Bool) → IsSound (cond b (emptied (n ∷ ns) t (met t (n ∷ ns))) (filed (cut size) (n ∷ ns) t))
+    inner : (b : Bool) → Steady (cond b (emptied (n ∷ ns) t (met t (n ∷ ns))) (filed (cut size) (n ∷ ns) t))
     inner true = emptied_any t n ns s a
     inner false = filed_sound t (n ∷ ns) (cut size) s a (λ f g. good-cut size f g) (λ f c. counted_cut t.age size f c)
 
-changed_sound : (t : Table) (r : Request) → IsSound t → table_verdict t r ≡ None → IsSound (changed t r)
+changed_sound : (t : Table) (r : Request) → Steady t → table_verdict t r ≡ None → Steady (changed t r)
 changed_sound t (Mkdir path) s e = on_made t (names_of path) None s tt tt e
 changed_sound t (Create path) s e = on_made t (names_of path) (Some empty_file) s good_empty (counted_empty (t.age + 1)) e
 changed_sound t (Write path offset bytes) s e = on_written t (names_of path) offset bytes s e
@@ -310,13 +311,13 @@ changed_sound t Root s e = s
 changed_sound t Reclaim s e = reclaimed_sound t t.trash s s.trash_good s.trash_counted (λ i. (let h : times i t.trash ≤ times i t.trash = omega arith in h))
 changed_sound t (Probe at) s e = s
 
--- the next table is sound
-pub sound_kept : (t : Table) (r : Request) → IsSound t → IsSound (stepped t r)
-sound_kept t r s = by (table_verdict t r) refl where
-  by : (v : Option PlainError) → table_verdict t r ≡ v → IsSound (cond (is_none v) (changed t r) t)
+-- the next table is so
+pub steady_kept : (t : Table) (r : Request) → Steady t → Steady (stepped t r)
+steady_kept t r s = by (table_verdict t r) refl where
+  by : (v : Option PlainError) → table_verdict t r ≡ v → Steady (cond (is_none v) (changed t r) t)
   by None e = changed_sound t r s e
   by (Some x) e = s
 
--- the table of the beginning is sound
-pub sound_empty : IsSound empty_table
-sound_empty = record { distinct = tt; good = tt; trash_good = tt; counted = tt; trash_counted = tt; once = λ i. omega arith; hand = refl; first = omega arith; next = omega arith; age = omega arith }
+-- so is the table of the beginning
+pub steady_empty : Steady empty_table
+steady_empty = record { distinct = tt; good = tt; trash_good = tt; counted = tt; trash_counted = tt; once = λ i. omega arith; hand = refl; first = omega arith; next = omega arith; age = omega arith }

@@ -1,17 +1,18 @@
 -- The laws of the table that everything above stands on.
+use Rattle.std.specs.Prelude.{◌+◌, ◌≤◌}
 use Rattle.iris_name.specs.declared.request.Request.{Request}
 use Rattle.iris_table.specs.Rows.{Table, empty_table}
 use Rattle.iris_table.specs.Changes.{stepped}
-use Rattle.iris_table.specs.Sound.{IsSound, IsOrdered}
+use Rattle.iris_table.specs.Sound.{IsSound, rows_in}
 
--- the table of the beginning is sound, and its names rise
+-- the table of the beginning is sound
 abbrev pub BeginsSound : Type 0
-BeginsSound = IsSound empty_table × IsOrdered empty_table.visible
+BeginsSound = IsSound empty_table
 
 -- each step from a sound table leads to a sound one
 abbrev pub StaysSound : Type 0
 StaysSound = (t : Table) (request : Request) → IsSound t → IsSound (stepped t request)
 
--- each step from a sound table keeps the names of its directories rising and in the grammar
-abbrev pub StaysOrdered : Type 0
-StaysOrdered = (t : Table) (request : Request) → IsSound t → IsOrdered t.visible → IsOrdered (stepped t request).visible
+-- in a sound table no more rows stand than ids were given; the first id is 2
+abbrev pub FewRows : Type 0
+FewRows = (t : Table) → IsSound t → rows_in t.visible + rows_in t.trash + 2 ≤ t.next

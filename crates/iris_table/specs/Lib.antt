@@ -7,3 +7,15 @@ pub mod Agree
 pub mod Laws
 pub mod Places
 pub mod Items
+pub mod Shown
+pub mod Records
+pub mod Unmade
+pub mod Pieces
+pub mod Walks
+pub mod Stops
+pub mod Served
+pub mod Replies
+pub mod Parents
+pub mod Sameness
+pub mod Texts
+pub mod TextsStay

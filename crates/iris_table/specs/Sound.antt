@@ -1,9 +1,12 @@
 -- What holds of every table that requests make.
-use Rattle.std.specs.Prelude.{◌≡◌, true, ℕ, ◌+◌, ◌/◌, ◌%◌, ◌^◌, ◌≤◌, ◌==◌, ◌&&◌, List, length, Option, Some, None, if◌then◌else◌, nat_le, nat_lt, slice_index}
+use Rattle.std.specs.Prelude.{◌≡◌, true, ℕ, ◌+◌, ◌/◌, ◌%◌, ◌^◌, ◌≤◌, ◌==◌, ◌&&◌, Bool, not, List, length, Option, Some, None, if◌then◌else◌, nat_le, nat_lt, slice_index}
+use Rattle.std.specs.List.{list_all}
 use Rattle.iris_name.specs.Paths.{is_name}
+use Rattle.iris_node.specs.Rules.{most_length}
 use Rattle.iris_plain.specs.Routes.{before}
 use Rattle.iris_plain.specs.Checks.{blocks_of}
 use Rattle.iris_table.specs.Rows.{File, Rows, End, Row, Table, find, zeros}
+use Rattle.iris_table.specs.Changes.{trash_name}
 
 -- the names of each directory stand once
 abbrev pub IsDistinct : Rows → Type 0
@@ -35,6 +38,10 @@ pub record IsCounted (age : ℕ) (f : File) : Type 0 where
   pub past : (p : ℕ) → blocks_of f.size ≤ p → f.version p ≡ 0
   pub hole : (p : ℕ) → f.version p ≡ 0 → f.block p ≡ zeros
 
+-- a file isn't too long for its record
+abbrev pub IsShort : File → Type 0
+IsShort f = f.size ≤ most_length
+
 -- the fact for a file, where there is one
 abbrev pub OnFile : (File → Type 0) → Option File → Type 0
 OnFile P None = Unit {0}
@@ -50,9 +57,37 @@ abbrev pub times : ℕ → Rows → ℕ
 times i End = 0
 times i (Row id name file inside next) = (if i == id then 1 else 0) + (times i inside + times i next)
 
+-- how many rows there are, those inside directories too
+abbrev pub rows_in : Rows → ℕ
+rows_in End = 0
+rows_in (Row id name file inside next) = 1 + (rows_in inside + rows_in next)
+
 -- each id that was given stands once at most, and no other stands
 abbrev pub AreOnce : Table → Type 0
 AreOnce t = (i : ℕ) → times i t.visible + times i t.trash ≤ (if nat_le 2 i && nat_lt i t.next then 1 else 0)
+
+-- a name comes before the first of rows
+abbrev pub IsAbove : List ℕ → Rows → Type 0
+IsAbove n End = Unit {0}
+IsAbove n (Row id name file inside next) = before n name ≡ true
+
+-- a name without a slash
+abbrev pub has_no_slash : List ℕ → Bool
+has_no_slash name = list_all (λ b. not (b == 47)) name
+
+-- a name as one step of a path
+abbrev pub is_step : List ℕ → Bool
+is_step name = is_name name && has_no_slash name
+
+-- the names of each directory rise by their bytes, and each is one step of a path
+abbrev pub IsOrdered : Rows → Type 0
+IsOrdered End = Unit {0}
+IsOrdered (Row id name file inside next) = (is_step name ≡ true) × IsAbove name next × IsOrdered inside × IsOrdered next
+
+-- the names in the trash rise, each that of its id; those inside directories there rise too and are steps of a path
+abbrev pub IsTrash : Rows → Type 0
+IsTrash End = Unit {0}
+IsTrash (Row id name file inside next) = (name ≡ trash_name id) × IsAbove name next × IsOrdered inside × IsTrash next
 
 -- a table that requests made
 pub record IsSound (t : Table) : Type 0 where
@@ -66,13 +101,7 @@ pub record IsSound (t : Table) : Type 0 where
   pub first : 2 ≤ t.next
   pub next : t.next ≤ t.age + 2
   pub age : t.age ≤ 2 ^ 40
-
--- a name comes before the first of rows
-abbrev pub IsAbove : List ℕ → Rows → Type 0
-IsAbove n End = Unit {0}
-IsAbove n (Row id name file inside next) = before n name ≡ true
-
--- the names of each directory rise by their bytes, and each is a name of the grammar
-abbrev pub IsOrdered : Rows → Type 0
-IsOrdered End = Unit {0}
-IsOrdered (Row id name file inside next) = (is_name name ≡ true) × IsAbove name next × IsOrdered inside × IsOrdered next
+  pub short : AllFiles IsShort t.visible
+  pub trash_short : AllFiles IsShort t.trash
+  pub ordered : IsOrdered t.visible
+  pub trash_ordered : IsTrash t.trash

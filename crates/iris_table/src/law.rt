@@ -2,18 +2,22 @@
 
 ghost use Rattle.iris_table.specs.Agree.{ViewsAgree};
 ghost use Rattle.iris_table.specs.Ages.{RequestsAge, StandsForOneBlock};
-ghost use Rattle.iris_table.specs.Laws.{BeginsSound, StaysSound, StaysOrdered};
+ghost use Rattle.iris_table.specs.Laws.{BeginsSound, StaysSound, FewRows};
+ghost use Rattle.iris_table.specs.Parents.{OneParent, NodesHaveParents, RootsHaveNone};
+ghost use Rattle.iris_table.specs.Sameness.{SameWhereSaid};
+ghost use Rattle.iris_table.specs.Texts.{NodesFit};
+ghost use Rattle.iris_table.specs.TextsStay.{TextsBegin, TextsStay};
 
 /// The view of the table's step is the plain step of its view, by the same checks.
 pub fn views_agree()
     ensures { ViewsAgree }
 {}
 
-/// Every table that requests make is sound, and the names of its directories rise by their bytes.
+/// Every table that requests make is sound, and has no more rows than ids were given.
 pub fn steps_stay_sound()
     ensures begins { BeginsSound }
     ensures stays { StaysSound }
-    ensures ordered { StaysOrdered }
+    ensures few { FewRows }
 {}
 
 /// Requests make files later: ids are never given again, counters don't fall, and a place that has changed is a hole
@@ -21,4 +25,28 @@ pub fn steps_stay_sound()
 pub fn versions_stand_for_blocks()
     ensures ages { RequestsAge }
     ensures one_block { StandsForOneBlock }
+{}
+
+/// What a sound table shows is a tree: each entry or part stands under its own name, what stands below a live node is live,
+/// and a node has one parent; of the live nodes exactly both roots have none.
+pub fn one_parent()
+    ensures tree { OneParent }
+    ensures others { NodesHaveParents }
+    ensures roots { RootsHaveNone }
+{}
+
+/// What a node's name stands for differs in two sound tables exactly where it, or a node below it, says something else by itself.
+pub fn same_where_said()
+    ensures { SameWhereSaid }
+{}
+
+/// Each node that a sound table shows is in the grammar of records under its name, where the names of the table are UTF-8.
+pub fn nodes_fit()
+    ensures { NodesFit }
+{}
+
+/// The names of a table are UTF-8 as long as the paths of all requests are: a path's pieces between slashes are.
+pub fn texts_stay()
+    ensures begins { TextsBegin }
+    ensures stays { TextsStay }
 {}

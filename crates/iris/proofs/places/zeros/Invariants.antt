@@ -1,4 +1,4 @@
-use Rattle.std.proofs.Common.{◌≡◌, ℕ, length, get_or, None}
+use Rattle.std.proofs.Common.{◌≡◌, ℕ, length, get_or}
 use Rattle.iris.proofs.places.zeros.Given as goal
 
 abbrev pub invariant-loop-i : goal.invariant-loop-i

@@ -1,4 +1,4 @@
-use Rattle.std.proofs.Common.{◌≡◌, ◌≤◌, ◌<◌, length}
+use Rattle.std.proofs.Common.{◌≡◌, ◌≤◌, length}
 use Rattle.iris.proofs.Sources.{IsTaken}
 use Rattle.iris.proofs.reading.read_within.Given as goal
 

@@ -1,10 +1,9 @@
-use Rattle.std.proofs.Common.{◌∙◌, ◌+◌, [], ◌∷◌, None, Some, length, get_or, refl, sym, ap, subst, arith}
+use Rattle.std.proofs.Common.{◌∙◌, [], ◌∷◌, refl, sym, ap, subst, arith}
 use Rattle.std.proofs.lemmas.List.{get_or_default}
-use Rattle.iris_name.specs.declared.note.Note.TheVariants.{Got, Call}
+use Rattle.iris_name.specs.declared.note.Note.TheVariants.{Got}
 use Rattle.iris_name.specs.Told.{appended}
 use Rattle.iris.specs.Answers.{Fits}
 use Rattle.iris.specs.Lines.{read_of}
-use Rattle.iris.specs.Registers.{block_name}
 use Rattle.iris.proofs.Results.{on_err}
 use Rattle.iris.proofs.Sessions.{ready_judged, got_ready, got_judged}
 use Rattle.iris.proofs.Stretches.{fetch_serves, stops_none, stops_got}

@@ -1,4 +1,4 @@
-use Rattle.std.proofs.Common.{◌∙◌, [], ◌∷◌, refl, sym, ap, subst, arith}
+use Rattle.std.proofs.Common.{refl, sym, subst, arith}
 use Rattle.iris.specs.Lines.{IsInRange}
 use Rattle.iris.proofs.Loops.{Goes, goes_first, goes_more, goes_few, goes_range, goes_all, goes_stops, empty_by_length, fresh_judged}
 use Rattle.iris.proofs.Results.{on_err}

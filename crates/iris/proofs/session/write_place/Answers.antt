@@ -1,5 +1,5 @@
 use Rattle.std.proofs.Common.{◌∙◌, ◌+◌, ◌*◌, [], ◌∷◌, codes, None, Some, cond, set, take, refl, sym, ap, subst, arith}
-use Rattle.iris_name.specs.declared.note.Note.TheVariants.{Call, Put}
+use Rattle.iris_name.specs.declared.note.Note.TheVariants.{Call}
 use Rattle.iris_name.specs.declared.request.Request.TheVariants.{Write}
 use Rattle.iris_name.specs.declared.request.Reply.TheVariants.{Done}
 use Rattle.iris_name.specs.Hmac.{record_of}
@@ -7,7 +7,6 @@ use Rattle.iris_name.specs.Told.{appended}
 use Rattle.iris_store.specs.declared.Transfer.TheVariants.{Put as PutTo}
 use Rattle.iris_history.specs.Values.{AreBytes}
 use Rattle.iris.specs.Lines.{write_of}
-use Rattle.iris.specs.Registers.{block_name}
 use Rattle.iris.proofs.Fillings.{bytes_filled}
 use Rattle.iris.proofs.Results.{on_err}
 use Rattle.iris.proofs.Sessions.{ready_judged, wrote_ready, wrote_judged, called_judged}

@@ -1,11 +1,8 @@
-use Rattle.std.proofs.Common.{◌≡◌, ◌⊎◌, ◌∙◌, IfSome, ap, subst, sym, IsTrue}
+use Rattle.std.proofs.Common.{◌≡◌, ◌∙◌, IfSome, subst, sym, IsTrue}
 use Rattle.std.specs.Prelude.{◌↔◌}
-use Rattle.iris_name.specs.Hmac.{block_key}
-use Rattle.iris_name.specs.History.{past_of}
 use Rattle.iris.specs.Notes.{replies_of, any_refused}
-use Rattle.iris.specs.Registers.{Bad}
-use Rattle.iris.specs.Top.{IsPrinted, HasNoKey}
-use Rattle.iris.proofs.Ends.{printed_end, refused_end, judged_end, words_end, cut_end, honest_end, limit_end}
+use Rattle.iris.specs.Top.{IsPrinted}
+use Rattle.iris.proofs.Ends.{printed_end, refused_end, judged_end, words_end, cut_end, honest_told, bad_line_end, other_line_end, long_end}
 use Rattle.iris.proofs.top.registers.Goals as goal
 
 pub returns-clause-printed : goal.returns-clause-printed
@@ -21,10 +18,16 @@ pub returns-clause-bad_words : goal.returns-clause-bad_words
 returns-clause-bad_words g c = rw (c.status.ensures, c.line.ensures) (words_end _ _ _ _ _ _ _ _ _ _ _ _ _ _ _ c.run-ended.result c.run-ended.ensures)
 
 pub returns-clause-honest : goal.returns-clause-honest
-returns-clause-honest g c = λ master bytes requests notes spoken is short spell told x y z w. rw c.status.ensures (honest_end _ _ _ _ _ _ _ _ _ _ _ _ _ _ _ c.run-ended.result c.requires.fresh c.run-ended.ensures master bytes requests notes spoken is short spell told x y z w)
+returns-clause-honest g c = λ master spoken form x y z. rw c.status.ensures (honest_told _ _ _ _ _ _ _ _ _ _ _ _ _ _ _ c.run-ended.result c.requires.fresh c.run-ended.ensures master spoken form x y z)
 
 pub returns-clause-cut : goal.returns-clause-cut
 returns-clause-cut g c h = cut_end _ _ _ _ _ _ _ _ _ _ _ _ _ _ _ c.run-ended.result c.requires.fresh c.run-ended.ensures (sym c.status.ensures ∙ h)
 
-pub returns-clause-limit : goal.returns-clause-limit
-returns-clause-limit g c = rw (c.status.ensures, c.line.ensures) (limit_end _ _ _ _ _ _ _ _ _ _ _ _ _ _ _ c.run-ended.result c.run-ended.ensures)
+pub returns-clause-bad_line : goal.returns-clause-bad_line
+returns-clause-bad_line g c = rw (c.status.ensures, c.line.ensures) (bad_line_end _ _ _ _ _ _ _ _ _ _ _ _ _ _ _ c.run-ended.result c.run-ended.ensures)
+
+pub returns-clause-other_lines : goal.returns-clause-other_lines
+returns-clause-other_lines g c = rw (c.status.ensures, c.line.ensures) (other_line_end c.run-ended.result)
+
+pub returns-clause-too_long : goal.returns-clause-too_long
+returns-clause-too_long g c = rw c.status.ensures (long_end _ _ _ _ _ _ _ _ _ _ _ _ _ _ _ c.run-ended.result c.run-ended.ensures)

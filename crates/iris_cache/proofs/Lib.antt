@@ -1,0 +1,12 @@
+pub mod Counts
+pub mod Hangs
+pub mod Writes
+pub mod Drafts
+pub mod Rising
+pub mod Landing
+pub mod Ways
+pub mod Children
+pub mod Applying
+pub mod Lacking
+pub mod Keeping
+pub mod Settling

@@ -1,0 +1,24 @@
+use Rattle.std.proofs.Common.{refl, arith}
+use Rattle.iris_name.specs.Names.{same_name}
+use Rattle.iris_name.specs.declared.name.Name.{Name}
+use Rattle.iris_cache.specs.Held.{with_node}
+use Rattle.iris_cache.specs.Resident.{Resident}
+use Rattle.iris_cache.proofs.Hangs.{rewritten-sound, rewritten-homed, children-kept, renewed-own}
+use Rattle.iris_cache.proofs.cache.Cache.rewrite.Goals as goal
+
+pub invariant_of-self : goal.invariant_of-self
+invariant_of-self c =
+    let C : Resident = record { nodes = c.self.inside.nodes.entries; room = c.self.inside.places.keys } in
+    let E : Resident = record { nodes = c.renew.new.nodes.entries; room = c.self.inside.places.keys } in
+    let f = with_node c.args.node in
+    let n = c.args.name.now in
+    let s = c.self.invariant.sound in
+    let is = c.renew.ensures.nodes in
+    let oe = c.renew.ensures.unique s.once in
+    let own = renewed-own C E c.args.node n s c.requires is in
+    let same = λ (q : Name). children-kept q n C E f (λ h. refl) s.once oe is in
+    record {
+      sound = rewritten-sound C E f (same_name n) s is oe own (λ h. refl) same refl c.renew.ensures.count;
+      places = let p = c.self.invariant.places in let a = c.renew.ensures.spare in omega (arith, p, a);
+      homed = λ so. rewritten-homed C E f (same_name n) s is oe own (λ h. refl) same (c.self.invariant.homed so);
+    }

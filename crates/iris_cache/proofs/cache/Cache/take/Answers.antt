@@ -1,0 +1,21 @@
+use Rattle.std.proofs.Common.{◌≡◌, refl, ap, sym, ◌∙◌, Some, arith}
+use Rattle.iris_cache.specs.Resident.{Resident, held}
+use Rattle.iris_cache.proofs.Hangs.{take-sound, take-homed, or-parts, not-above}
+use Rattle.iris_cache.proofs.cache.Cache.take.Goals as goal
+
+pub invariant_of-self : goal.invariant_of-self
+invariant_of-self c =
+    let C : Resident = record { nodes = c.self.inside.nodes.entries; room = c.self.inside.places.keys } in
+    let E : Resident = record { nodes = c.swap_remove.new.self.entries; room = c.self.inside.places.keys } in
+    let n = c.args.name.now in
+    let h = c.in-Some.held in
+    let at : held C n ≡ Some h = sym c.in-Some.ensures.value in
+    let alone = c.requires.alone h (sym (ap (λ r. held r n) c.self.view_is) ∙ at) in
+    let is = c.in-Some.ensures.updates.0 in
+    let s = c.self.invariant.sound in
+    record {
+      sound = take-sound C E n h s at alone is c.in-Some.ensures.unique refl c.in-Some.ensures.len;
+      places = let p = c.self.invariant.places in let r = c.in-Some.ensures.room.0 in omega (arith, p, r);
+      homed = λ so. let parts = or-parts c.self.inside.astray _ so in
+          take-homed C E n h s at alone is c.in-Some.ensures.unique (not-above h.kids parts.1) (c.self.invariant.homed parts.0);
+    }

@@ -1,0 +1,93 @@
+-- When a cache, alone or with a draft over it, pictures a table.
+use Rattle.std.specs.Prelude.{◌≡◌, ◌⊎◌, Option, Some, None, IsSome, IsSomeAnd, true}
+use Rattle.std.specs.Option.{option_map}
+use Rattle.iris_name.specs.declared.name.FileId.{FileId}
+use Rattle.iris_name.specs.declared.name.Hash32.{Hash32}
+use Rattle.iris_name.specs.declared.name.Name.{Name}
+use Rattle.iris_name.specs.declared.name.Name.TheVariants as name
+use Rattle.iris_node.specs.declared.node.Side.{Side}
+use Rattle.iris_node.specs.declared.node.Side.TheVariants.{Fold, Below}
+use Rattle.iris_node.specs.declared.node.Link.{Link}
+use Rattle.iris_node.specs.declared.node.Body.{Body}
+use Rattle.iris_node.specs.declared.node.Body.TheVariants.{Dir, File}
+use Rattle.iris_node.specs.declared.node.Node.{Node}
+use Rattle.iris_node.specs.declared.node.Node.TheVariants.{Entry, Part}
+use Rattle.iris_node.specs.Trees.{Shown, IsNodeName, IsParent}
+use Rattle.iris_node.specs.Unfolded.{Unfolded, hash, node_of}
+use Rattle.iris_node.specs.Local.{local, local_of}
+use Rattle.iris_cache.specs.declared.held.Held.{Held}
+use Rattle.iris_cache.specs.declared.draft.Change.{Change}
+use Rattle.iris_cache.specs.Rehash.{whole_part, low_part, high_part}
+use Rattle.iris_cache.specs.Resident.{Resident, held, parent_in}
+use Rattle.iris_cache.specs.Drafted.{Drafted, drafted, known, seen}
+
+-- a link holds this hash of this name
+abbrev pub LinkHolds : Option Link → Name → Hash32 → Type 0
+LinkHolds None n x = ⊥
+LinkHolds (Some l) n x = (n ≡ name.Entry l.id) × (x ≡ l.hash)
+
+-- a side whose part has the first name holds this hash of the second
+abbrev pub SideHolds : Name → Side → Name → Hash32 → Type 0
+SideHolds part (Fold version) n x = ⊥
+SideHolds part (Below h) n x = (n ≡ part) × (x ≡ h)
+
+-- what an entry of this id says of its directory or file holds this hash of this name
+abbrev pub BodyHolds : FileId → Body → Name → Hash32 → Type 0
+BodyHolds id (Dir top) n x = LinkHolds top n x
+BodyHolds id (File size counter versions) n x = SideHolds (whole_part id) versions n x
+
+-- a node holds this hash of this child
+abbrev pub Holds : Node → Name → Hash32 → Type 0
+Holds (Entry e) n x = LinkHolds e.left n x ⊎ (LinkHolds e.right n x ⊎ BodyHolds e.id e.body n x)
+Holds (Part p) n x = SideHolds (low_part p) p.low n x ⊎ SideHolds (high_part p) p.high n x
+
+-- a name isn't resident, or is settled
+abbrev pub IsSettled : Option Held → Type 0
+IsSettled None = Unit {0}
+IsSettled (Some h) = h.settled ≡ true
+
+-- where the name is live, this is the hash of its record
+abbrev pub IsHashOf : Option Unfolded → Hash32 → Type 0
+IsHashOf o x = (u : Unfolded) → o ≡ Some u → option_map hash (node_of u) ≡ Some x
+
+-- it is live, and the node says by itself what it stands for
+abbrev pub IsLike : Option Unfolded → Node → Type 0
+IsLike o node = IsSomeAnd o (λ u. local u ≡ Some (local_of node))
+
+-- A cache pictures a table.
+pub record Pictures (t : Shown) (c : Resident) : Type 0 where
+  -- each resident node is the table's, but for hashes
+  pub nodes : (n : Name) (h : Held) → held c n ≡ Some h → IsLike (t n) h.node
+  -- a hash that is held of an absent or a settled child is its true one
+  pub hashes : (n m : Name) (h : Held) (x : Hash32) → held c n ≡ Some h → Holds h.node m x → IsSettled (held c m) → IsHashOf (t m) x
+  -- the parent of a resident node is resident, and is its parent in the table
+  pub parents : (n p : Name) (h : Held) → held c n ≡ Some h → IsParent t p n → (h.parent ≡ Some p) × IsSome (held c p)
+  pub tied : (n p : Name) (h : Held) → held c n ≡ Some h → h.parent ≡ Some p → IsParent t p n
+  -- the parent of an unsettled node is unsettled
+  pub rising : (n p : Name) (h g : Held) → held c n ≡ Some h → h.parent ≡ Some p → held c p ≡ Some g → g.settled ≡ true → h.settled ≡ true
+
+abbrev pub parent_by : Option Change → Option Held → Option Name
+parent_by (Some change) h = change.parent
+parent_by None h = parent_in h
+
+-- the parent of a name with the changes made
+abbrev pub above : Drafted → Resident → Name → Option Name
+above d c n = parent_by (drafted d n) (held c n)
+
+-- A cache pictures the table before, and with a draft over it the table after.
+pub record Drafts (old new : Shown) (d : Drafted) (c : Resident) : Type 0 where
+  -- the cache alone pictures the table before
+  pub before : Pictures old c
+  -- each node that is seen is the new table's, but for hashes
+  pub nodes : (n : Name) (node : Node) → seen d c n ≡ Some node → IsLike (new n) node
+  -- a hash that is held of an absent or a settled child was its true one before
+  pub hashes : (n m : Name) (node : Node) (x : Hash32) → seen d c n ≡ Some node → Holds node m x → IsSettled (held c m) → IsHashOf (old m) x
+  -- the parent of a node that is seen is seen, and is its parent in the new table
+  pub parents : (n p : Name) (node : Node) → seen d c n ≡ Some node → IsParent new p n → (above d c n ≡ Some p) × IsSome (seen d c p)
+  pub tied : (n p : Name) (node : Node) → seen d c n ≡ Some node → above d c n ≡ Some p → IsParent new p n
+  -- a node that was taken away isn't live
+  pub gone : (n : Name) → IsNodeName n → known d c n ≡ Some None → new n ≡ None
+  -- a node that neither draft nor cache has stands for the same in both tables
+  pub away : (n : Name) → IsNodeName n → known d c n ≡ None → new n ≡ old n
+  -- a name that the draft changes is resident, or wasn't live before
+  pub resident : (n : Name) (change : Change) → drafted d n ≡ Some change → IsSome (held c n) ⊎ (old n ≡ None)

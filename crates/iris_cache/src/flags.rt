@@ -1,0 +1,89 @@
+//! Marks, pins and what is out: changes of one resident node that leave the tree.
+
+ghost use Rattle.std.specs.Prelude.{◌≡◌, ◌≤◌, IfSome, IsSome, None, length};
+ghost use Rattle.std.specs.Option.{option_map};
+ghost use Rattle.iris_name.specs.declared.name.Name.{Name as SpecName};
+ghost use Rattle.iris_cache.specs.Held.{edited, IsFlag, pinned, unpinned, dirtied, begun, finished};
+ghost use Rattle.iris_cache.specs.Resident.{held, Updates};
+
+use crate::cache::Cache;
+use crate::edits::{edit, unpin_all};
+use crate::held::Edit;
+use iris_name::Name;
+
+impl Cache {
+    // Makes an edit of a resident node that leaves its node, its parent and its children.
+    pub(crate) fn flag(&mut self, name: &Name, change: Edit)
+        requires { IsFlag change }
+        ensures nodes { Updates self.old self.new name.now (edited change) }
+        ensures room { self.new.room ≡ self.old.room }
+        ensures count { length self.new.nodes ≡ length self.old.nodes }
+    {
+        edit(&mut self.nodes, name, change);
+    }
+
+    /// Makes a node dirty.
+    pub fn mark(&mut self, name: &Name)
+        requires { IsSome (held self.old name.now) }
+        ensures nodes { Updates self.old self.new name.now dirtied }
+        ensures room { self.new.room ≡ self.old.room }
+        ensures count { length self.new.nodes ≡ length self.old.nodes }
+    {
+        self.flag(name, Edit::Dirty);
+    }
+
+    /// Pins a node for a caller.
+    pub fn pin(&mut self, name: &Name, who: u32)
+        requires resident { IsSome (held self.old name.now) }
+        requires caller { who ≤ 16 }
+        ensures nodes { Updates self.old self.new name.now (pinned who) }
+        ensures room { self.new.room ≡ self.old.room }
+        ensures count { length self.new.nodes ≡ length self.old.nodes }
+    {
+        self.flag(name, Edit::Pin(who));
+    }
+
+    /// Takes a caller's pin off a node.
+    pub fn unpin(&mut self, name: &Name, who: u32)
+        requires resident { IsSome (held self.old name.now) }
+        requires caller { who ≤ 16 }
+        ensures nodes { Updates self.old self.new name.now (unpinned who) }
+        ensures room { self.new.room ≡ self.old.room }
+        ensures count { length self.new.nodes ≡ length self.old.nodes }
+    {
+        self.flag(name, Edit::Unpin(who));
+    }
+
+    /// A transfer or settling of a node begins for a caller.
+    pub fn begin(&mut self, name: &Name, who: u32)
+        requires free { IfSome (held self.old name.now) (λ h. h.out ≡ None) }
+        requires resident { IsSome (held self.old name.now) }
+        requires caller { who ≤ 16 }
+        ensures nodes { Updates self.old self.new name.now (begun who) }
+        ensures room { self.new.room ≡ self.old.room }
+        ensures count { length self.new.nodes ≡ length self.old.nodes }
+    {
+        self.flag(name, Edit::Begin(who));
+    }
+
+    /// What is out for a node ends, cleanly or not.
+    pub fn finish(&mut self, name: &Name, clean: bool)
+        requires out { IfSome (held self.old name.now) (λ h. IsSome h.out) }
+        requires resident { IsSome (held self.old name.now) }
+        ensures nodes { Updates self.old self.new name.now (finished clean) }
+        ensures room { self.new.room ≡ self.old.room }
+        ensures count { length self.new.nodes ≡ length self.old.nodes }
+    {
+        self.flag(name, Edit::Finish(clean));
+    }
+
+    /// Takes all pins of a caller off.
+    pub fn release(&mut self, who: u32)
+        requires { who ≤ 16 }
+        ensures nodes { (q : SpecName) → held self.new q ≡ option_map (unpinned who) (held self.old q) }
+        ensures room { self.new.room ≡ self.old.room }
+        ensures count { length self.new.nodes ≡ length self.old.nodes }
+    {
+        unpin_all(&mut self.nodes, who);
+    }
+}

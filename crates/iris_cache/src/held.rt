@@ -1,0 +1,142 @@
+//! What the cache holds of a node.
+
+ghost use Rattle.std.specs.Prelude.{◌≡◌};
+ghost use Rattle.iris_cache.specs.Held.{IsEdit, edited, touched_after, stay_of, with_node};
+
+use iris_name::{Expect, Name, NoMemory};
+use iris_node::Node;
+
+/// A resident node.
+#[derive(Debug, Drop)]
+pub struct Held {
+    pub node: Node,
+    /// The node that links to it.
+    pub parent: Option<Name>,
+    /// How many of its children are resident.
+    pub kids: u32,
+    /// Bit `who` is that caller's pin.
+    pub pins: u32,
+    pub dirty: bool,
+    pub settled: bool,
+    /// The caller for whom a transfer or settling is out.
+    pub out: Option<u32>,
+    /// Whether the node or one below it changed since that began.
+    pub touched: bool,
+}
+
+/// Why a plan stops.
+#[derive(Debug, PartialEq, Eq, Clone, Copy)]
+pub enum Short {
+    /// It lacks this name, whose record must show what is expected.
+    Need { name: Name, expect: Expect },
+    NoMemory,
+}
+
+impl From<NoMemory> for Short {
+    ghost use Rattle.std.specs.Prelude.{◌≡◌};
+    ghost use Rattle.iris_cache.specs.declared.held.Short.TheVariants.{NoMemory as NoRoom};
+
+    ghost from_gives = { λ _ e. e ≡ NoRoom };
+
+    fn from(_error: NoMemory) -> Short {
+        Short::NoMemory
+    }
+}
+
+/// Why a node can't go.
+#[derive(Clone, Copy, Debug, PartialEq, Eq)]
+pub enum Stay {
+    Out,
+    Dirty,
+    HasKids,
+    Pinned,
+}
+
+/// What befalls a resident node.
+#[derive(Clone, Copy, Debug)]
+pub(crate) enum Edit {
+    Pin(u32),
+    Unpin(u32),
+    Dirty,
+    Begin(u32),
+    Finish(bool),
+    Settled,
+    Moved,
+    Kid,
+    Orphan,
+    Adopt(Option<Name>),
+}
+
+impl Held {
+    // Makes an edit.
+    pub(crate) fn edit(&mut self, edit: Edit)
+        requires { IsEdit edit self.old }
+        ensures { self.new ≡ edited edit self.old }
+    {
+        match edit {
+            Edit::Pin(who) => self.pins |= 1 << who,
+            Edit::Unpin(who) => self.pins &= !(1 << who),
+            Edit::Dirty => self.dirty = true,
+            Edit::Begin(who) => {
+                self.out = Some(who);
+                self.touched = false;
+            }
+            Edit::Finish(clean) => {
+                self.out = None;
+                self.dirty = self.dirty && !(clean && self.settled && !self.touched);
+            }
+            Edit::Settled => self.settled = true,
+            Edit::Moved => {
+                self.dirty = true;
+                self.settled = false;
+                self.touched = touches(self.out, self.touched);
+            }
+            Edit::Kid => self.kids += 1,
+            Edit::Orphan => self.kids -= 1,
+            Edit::Adopt(parent) => self.parent = parent,
+        }
+    }
+
+    // Gives it another node.
+    pub(crate) fn renew(&mut self, node: Node)
+        ensures { self.new ≡ with_node node self.old }
+    {
+        self.node = node;
+    }
+
+    // Its node, alone.
+    pub(crate) fn into_node(self) -> Node
+        ensures { result ≡ self.node }
+    {
+        self.node
+    }
+
+    // Why it can't go, if so.
+    pub(crate) fn stay(&self) -> Option<Stay>
+        ensures { result ≡ stay_of self.now }
+    {
+        if self.out.is_some() {
+            return Some(Stay::Out);
+        }
+        if self.dirty {
+            return Some(Stay::Dirty);
+        }
+        if self.kids > 0 {
+            return Some(Stay::HasKids);
+        }
+        if self.pins > 0 {
+            return Some(Stay::Pinned);
+        }
+        None
+    }
+}
+
+// Whether it counts as touched after a change.
+fn touches(out: Option<u32>, touched: bool) -> bool
+    ensures { result ≡ touched_after out touched }
+{
+    match out {
+        Some(_) => true,
+        None => touched,
+    }
+}

@@ -1,0 +1,38 @@
+//! Laws of caches that picture a table.
+
+ghost use Rattle.iris_cache.specs.Laws.{AlikeKeeps, ApplyKeeps, ApplyMarks, EvictKeeps, InsertKeeps, Lacks, SetHashKeeps};
+
+/// What a plan lacks is live before it, with the hash that the plan expects, and its parent is resident.
+pub fn lacks()
+    ensures { Lacks }
+{}
+
+/// A cache goes on picturing a table where a settled node is evicted.
+pub fn evict_keeps()
+    ensures { EvictKeeps }
+{}
+
+/// A cache goes on picturing a table where a node of it is inserted, if its parent is resident.
+pub fn insert_keeps()
+    ensures { InsertKeeps }
+{}
+
+/// A cache goes on picturing a table where a node is settled with its true hash.
+pub fn set_hash_keeps()
+    ensures { SetHashKeeps }
+{}
+
+/// A draft over a cache makes of it a picture of the table after.
+pub fn apply_keeps()
+    ensures { ApplyKeeps }
+{}
+
+/// A draft marks all that stands for something else, and nothing more where it sets no node anew that stands for the same.
+pub fn apply_marks()
+    ensures { ApplyMarks }
+{}
+
+/// Pins, dirty marks and what is out are no part of what a cache pictures.
+pub fn alike_keeps()
+    ensures { AlikeKeeps }
+{}

@@ -1,0 +1,25 @@
+//! The partly resident tree, and drafts over it.
+#![tactic(auto)]
+
+pub mod apply;
+pub mod cache;
+pub mod draft;
+pub mod edits;
+pub mod flags;
+pub mod held;
+pub mod laws;
+pub mod marks;
+pub mod parents;
+pub mod places;
+pub mod rehash;
+pub mod ties;
+
+pub use cache::Cache;
+pub use draft::{Change, Draft};
+pub use held::{Held, Short, Stay};
+pub use laws::{
+    alike_keeps, apply_keeps, apply_marks, evict_keeps, insert_keeps, lacks, set_hash_keeps,
+};
+
+#[cfg(test)]
+mod tests;

@@ -1,0 +1,45 @@
+-- What the program that serves the table holds.
+use Rattle.std.specs.Prelude.{ℕ, List}
+use Rattle.iris_mac.specs.declared.keys.Keys.{Keys}
+use Rattle.iris_table.specs.declared.item.Item.{Item}
+use Rattle.iris_table.specs.Rows.{Table}
+use Rattle.iris_table.specs.Sound.{IsSound}
+use Rattle.iris_table.specs.Items.{IsForest}
+use Rattle.iris_table.specs.Stops.{table_over}
+
+-- the rows below the visible root and in the trash, the next id and the age
+pub record State : Type 0 where
+  pub visible : List Item
+  pub trash : List Item
+  pub next : ℕ
+  pub age : ℕ
+
+-- the table that they are
+abbrev pub table_in : State → Table
+table_in s = table_over s.visible s.trash s.next s.age
+
+-- both lists are in preorder
+pub record AreForests (s : State) : Type 0 where
+  pub visible : IsForest s.visible
+  pub trash : IsForest s.trash
+
+-- both lists are in preorder, and requests make such a table
+pub record IsWhole (s : State) : Type 0 where
+  pub forests : AreForests s
+  pub sound : IsSound (table_in s)
+
+-- the same with the keys
+pub record Served : Type 0 where
+  pub keys : Keys
+  pub visible : List Item
+  pub trash : List Item
+  pub next : ℕ
+  pub age : ℕ
+
+-- what is held without the keys
+abbrev pub state_of : Served → State
+state_of s = record { visible = s.visible; trash = s.trash; next = s.next; age = s.age }
+
+-- the table that is served
+abbrev pub table_of : Served → Table
+table_of s = table_in (state_of s)

@@ -1,0 +1,12 @@
+pub mod Levels
+pub mod Tables
+pub mod Walks
+pub mod Hashes
+pub mod Joins
+pub mod Spans
+pub mod Sets
+pub mod Steps
+pub mod Reversions
+pub mod Likes
+pub mod Plans
+pub mod Written

@@ -1,0 +1,5 @@
+pub mod Versions
+pub mod Needs
+pub mod Sides
+pub mod Reached
+pub mod Ranges

@@ -1,0 +1,104 @@
+-- What a plan on versions lacks, and what it finds.
+use Rattle.std.specs.Prelude.{◌≡◌, ◌≢◌, ◌+◌, ◌<◌, ◌≤◌, ℕ, Option, Some, None, IsSome}
+use Rattle.std.specs.Option.{option_map}
+use Rattle.iris_name.specs.declared.name.FileId.{FileId}
+use Rattle.iris_name.specs.declared.name.Name.{Name}
+use Rattle.iris_name.specs.declared.name.Name.TheVariants as name
+use Rattle.iris_name.specs.declared.note.Expect.{Expect}
+use Rattle.iris_name.specs.declared.note.Expect.TheVariants.{Hash, Version}
+use Rattle.iris_node.specs.declared.node.Side.{Side}
+use Rattle.iris_node.specs.Fields.{EntryFields}
+use Rattle.iris_version_tree.specs.Sides.{entry_with}
+use Rattle.iris_node.specs.declared.node.Body.{Body}
+use Rattle.iris_node.specs.declared.node.Body.TheVariants.{Dir, File}
+use Rattle.iris_node.specs.declared.node.Node.{Node}
+use Rattle.iris_node.specs.declared.node.Node.TheVariants as node
+use Rattle.iris_node.specs.Unfolded.{Unfolded, hash, node_of}
+use Rattle.iris_shape.specs.FoldLaws.{IsUnder}
+use Rattle.iris_cache.specs.declared.held.Short.{Short}
+use Rattle.iris_cache.specs.declared.held.Short.TheVariants.{Need, NoMemory}
+use Rattle.iris_cache.specs.Resident.{Resident, held}
+use Rattle.iris_cache.specs.Drafted.{Drafted, drafted, seen}
+use Rattle.iris_node.specs.Trees.{Shown, IsParent}
+use Rattle.iris_version_tree.specs.Versions.{Versioned, places}
+
+abbrev pub IsFileBody : Body → Type 0
+IsFileBody (Dir top) = ⊥
+IsFileBody (File size counter versions) = Unit {0}
+
+abbrev pub IsFileNode : Option Node → Type 0
+IsFileNode None = ⊥
+IsFileNode (Some (node.Part p)) = ⊥
+IsFileNode (Some (node.Entry e)) = IsFileBody e.body
+
+-- the entry of a file is in draft or cache
+abbrev pub IsFile : Drafted → Resident → FileId → Type 0
+IsFile d c file = IsFileNode (seen d c (name.Entry file))
+
+-- the entry of a file, seen with some side of all its versions
+abbrev pub HasEntryWith : Drafted → Resident → FileId → EntryFields → Type 0
+HasEntryWith d c file e = (s : Side) × (seen d c (name.Entry file) ≡ Some (node.Entry (entry_with s e)))
+
+-- a part of a level and an index covers a place of a range
+pub record Covers (level index low high : ℕ) : Type 0 where
+  pub place : ℕ
+  pub from : low ≤ place
+  pub to : place < high
+  pub under : IsUnder level index place
+
+-- a name of a file's part that covers a place of a range
+abbrev pub IsPartOver : FileId → ℕ → ℕ → Name → Type 0
+IsPartOver file low high (name.Entry id) = ⊥
+IsPartOver file low high (name.Part g level index) = (g ≡ file) × Covers level index low high
+IsPartOver file low high (name.Block g place) = ⊥
+
+-- what the record of a node has to show
+abbrev pub IsExpected : Expect → Option Unfolded → Type 0
+IsExpected x None = ⊥
+IsExpected (Hash h) (Some u) = option_map hash (node_of u) ≡ Some h
+IsExpected (Version version) (Some u) = ⊥
+
+-- In each table that is pictured the name is live, now and before; before, this is its hash, and its parent is resident.
+pub record IsTrueNeed (old new : Shown) (c : Resident) (n : Name) (x : Expect) : Type 0 where
+  pub live : IsSome (new n)
+  pub expected : IsExpected x (old n)
+  pub parent : (p : Name) → IsParent old p n → IsSome (held c p)
+
+-- A plan over the places of a range lacks a part that covers one of them: neither draft nor cache has it.
+pub record Lacks (d : Drafted) (c : Resident) (file : FileId) (low high : ℕ) (n : Name) (x : Expect) : Type 0 where
+  pub over : IsPartOver file low high n
+  pub unset : drafted d n ≡ None
+  pub absent : held c n ≡ None
+  pub needed : (old new : Shown) (v : ℕ → ℕ) → Versioned old new file v d c → IsTrueNeed old new c n x
+
+-- why a plan that takes no memory stops: it lacks a part
+abbrev pub IsLack : Drafted → Resident → FileId → ℕ → ℕ → Short → Type 0
+IsLack d c file low high (Need n x) = Lacks d c file low high n x
+IsLack d c file low high NoMemory = ⊥
+
+-- why a plan stops: it lacks a part, or memory
+abbrev pub IsShort : Drafted → Resident → FileId → ℕ → ℕ → Short → Type 0
+IsShort d c file low high (Need n x) = Lacks d c file low high n x
+IsShort d c file low high NoMemory = Unit {0}
+
+-- these places are holes
+abbrev pub AreHoles : (ℕ → ℕ) → ℕ → ℕ → Type 0
+AreHoles v from to = (p : ℕ) → from ≤ p → p < to → v p ≡ 0
+
+-- the least place from one on that isn't a hole, or none
+abbrev pub IsFirstWritten : (ℕ → ℕ) → ℕ → Option ℕ → Type 0
+IsFirstWritten v from None = AreHoles v from places
+IsFirstWritten v from (Some p) = (from ≤ p) × (p < places) × (v p ≢ 0) × AreHoles v from p
+
+-- A search from a place on lacks a part that covers a place; all places before it are holes.
+pub record LacksFirst (d : Drafted) (c : Resident) (file : FileId) (from : ℕ) (n : Name) (x : Expect) : Type 0 where
+  pub place : ℕ
+  pub after : from ≤ place
+  pub within : place < places
+  pub holes : (old new : Shown) (v : ℕ → ℕ) → Versioned old new file v d c → AreHoles v from place
+  pub lacks : Lacks d c file place (place + 1) n x
+
+-- why a search stops: it lacks a part
+abbrev pub IsFirstLack : Drafted → Resident → FileId → ℕ → Short → Type 0
+IsFirstLack d c file from (Need n x) = LacksFirst d c file from n x
+IsFirstLack d c file from NoMemory = ⊥
