@@ -15,9 +15,9 @@ use Rattle.iris_cache.specs.declared.draft.Change.{Change}
 use Rattle.iris_cache.specs.Held.{moved, with_kids}
 use Rattle.iris_cache.specs.Resident.{Resident, held, children, map_if}
 use Rattle.iris_cache.specs.Drafted.{Drafted, drafted, known, seen, known_by, there_by}
-use Rattle.iris_cache.specs.Applied.{Lands, Changed, Differs, IsOver, above as over, landed, landed_by, parent_after, arrived}
+use Rattle.iris_cache.specs.Applied.{Lands, Changed, Differs, IsOver, above as over, landed, landed_by, arrived}
 use Rattle.iris_node.specs.Trees.{Shown, IsTree, IsParent, IsAbove, IsNodeName, node_name}
-use Rattle.iris_cache.specs.Pictures.{IsLike, IsHashOf, IsSettled, Holds, Pictures, Drafts, above, parent_by}
+use Rattle.iris_cache.specs.Pictures.{IsLike, IsHashOf, IsSettled, Holds, Pictures, Drafts, parent_after, parent_by}
 use Rattle.iris_cache.specs.Laws.{AreFormed, ApplyKeeps, ApplyMarks, IsSparing, KeepsMarks, Left}
 use Rattle.iris_cache.proofs.Children.{same-node, live-name, held-named}
 use Rattle.iris_cache.proofs.Lacking.{named, unknown}
@@ -162,7 +162,7 @@ module _ (old new : Shown) (d : Drafted) (c e : Resident) (pic : Drafts old new 
   stays-of q s = subst IsSome (sym ((lands q).is)) (stays (drafted d q) (held c q) (marked q) (children e q) s)
 
   -- marks go up
-  up-one : (m n : Name) → above d c m ≡ Some n → marked n ≡ false → marked m ≡ false
+  up-one : (m n : Name) → parent_after d c m ≡ Some n → marked n ≡ false → marked m ≡ false
   up-one m n at un = false-by (marked m) (λ t.
       let f = (lands m).from t in
       let o : IsOver (parent_after d c) f.0 n = (suc f.2.0, over-up (parent_after d c) m n at f.2.0 (Some f.0) f.2.1) in
@@ -271,7 +271,7 @@ module _ (old new : Shown) (d : Drafted) (c e : Resident) (pic : Drafts old new 
       let a = after-of q h at in
       let z = after-of p g at-p in
       let b = settled-before p g at-p s in
-      let up : above d c q ≡ Some p = a.parent ∙ of in
+      let up : parent_after d c q ≡ Some p = a.parent ∙ of in
       let r = unmarked-stays q h at (up-one q p up b.unmarked) in
       let i = pic.tied q p h.node a.node up in
       let j : IsParent old p q = record { parent = i.parent; child = i.child; live = same-at p g.node i.parent z.node b.unmarked i.live; above = i.above; named = i.named } in
@@ -293,7 +293,7 @@ module _ (old new : Shown) (d : Drafted) (c e : Resident) (pic : Drafts old new 
   abbrev IsBelow : Name → ℕ → Type 0
   IsBelow n k = (m : Name) (node : Node) → over (parent_after d c) k (Some m) n ≡ true → seen d c m ≡ Some node → new n ≡ old n → new m ≡ old m
 
-  below-next : (n : Name) (k : ℕ) → IsBelow n k → (m : Name) (node : Node) (o : Option Name) → above d c m ≡ o → over (parent_after d c) k o n ≡ true → seen d c m ≡ Some node → new n ≡ old n → new m ≡ old m
+  below-next : (n : Name) (k : ℕ) → IsBelow n k → (m : Name) (node : Node) (o : Option Name) → parent_after d c m ≡ o → over (parent_after d c) k o n ≡ true → seen d c m ≡ Some node → new n ≡ old n → new m ≡ old m
   below-next n k ih m node None at h sees same = absurd (true≢false (sym h ∙ above-none (parent_after d c) k n))
   below-next n k ih m node (Some p) at h sees same =
       let i = pic.tied m p node sees at in
@@ -303,9 +303,9 @@ module _ (old new : Shown) (d : Drafted) (c e : Resident) (pic : Drafts old new 
 
   same-below : (n : Name) (k : ℕ) → IsBelow n k
   same-below n zero m node h sees same = absurd (true≢false (sym h))
-  same-below n (suc k) m node h sees same = elim (or-split (same_name m n) (over (parent_after d c) k (above d c m) n) h) [
+  same-below n (suc k) m node h sees same = elim (or-split (same_name m n) (over (parent_after d c) k (parent_after d c m) n) h) [
     | inl s ↦ subst (λ (p : Name). new p ≡ old p) (sym (same_name-true m n s)) same
-    | inr r ↦ below-next n k (same-below n k) m node (above d c m) refl r sees same
+    | inr r ↦ below-next n k (same-below n k) m node (parent_after d c m) refl r sees same
   ]
 
   new-name : (m : Name) (change : Change) (node : Node) → drafted d m ≡ Some change → seen d c m ≡ Some node → held c m ≡ None → new m ≡ old m → ⊥

@@ -47,7 +47,7 @@ child_named t p n is = named is.child n is.named
 pub not_live : (t : Shown) (p n : Name) → t p ≡ None → IsParent t p n → ⊥
 not_live t p n e is = let h = is.live in cc
 
-not_known : (d : Drafted) (c : Resident) (p : Name) → known d c p ≡ None → IsSome (seen d c p) → ⊥
+pub not_known : (d : Drafted) (c : Resident) (p : Name) → known d c p ≡ None → IsSome (seen d c p) → ⊥
 not_known d c p e h = let s : seen d c p ≡ None = ap there_by e in let P : Option Node → Type 0 = λ o. IsSome o in absurd (no_some (subst P s h))
   where
     no_some : IsSome {T = Node} None → ⊥

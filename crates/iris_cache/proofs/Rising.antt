@@ -6,9 +6,9 @@ use Rattle.iris_name.specs.declared.name.Name.{Name}
 use Rattle.iris_cache.specs.declared.held.Held.{Held}
 use Rattle.iris_cache.specs.Held.{moved, touched_after}
 use Rattle.iris_cache.specs.Resident.{Resident, held, map_if, parent_in}
-use Rattle.iris_cache.specs.Applied.{above, parent_after, Changed, Differs}
+use Rattle.iris_cache.specs.Applied.{above, Changed, Differs}
 use Rattle.iris_cache.specs.Marked.{Marks, MarksOne, met}
-use Rattle.iris_cache.specs.Pictures.{parent_by}
+use Rattle.iris_cache.specs.Pictures.{parent_by, parent_after}
 use Rattle.iris_cache.specs.Drafted.{Drafted, drafted}
 use Rattle.iris_cache.proofs.Drafts.{among, among-more, among-all, place-held}
 use Rattle.iris_node.specs.declared.node.Node.{Node}

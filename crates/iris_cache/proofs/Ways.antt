@@ -11,10 +11,10 @@ use Rattle.iris_name.specs.NameLaws.{same_name_equiv, same_name-true}
 use Rattle.iris_name.specs.declared.name.Name.{Name}
 use Rattle.iris_cache.specs.declared.held.Held.{Held}
 use Rattle.iris_cache.specs.declared.draft.Change.{Change}
-use Rattle.iris_cache.specs.Pictures.{parent_by}
+use Rattle.iris_cache.specs.Pictures.{parent_by, parent_after}
 use Rattle.iris_cache.specs.Drafted.{Drafted, drafted}
 use Rattle.iris_cache.specs.Resident.{Resident, held}
-use Rattle.iris_cache.specs.Applied.{above, parent_after, IsOver}
+use Rattle.iris_cache.specs.Applied.{above, IsOver}
 use Rattle.iris_cache.specs.Marked.{met}
 use Rattle.iris_cache.proofs.Rising.{or-split, or-left, or-right, above-none}
 

@@ -9,7 +9,7 @@ use Rattle.iris_cache.specs.declared.draft.Change.{Change}
 use Rattle.iris_cache.specs.Held.{with_kids, with_node, moved, under}
 use Rattle.iris_cache.specs.Resident.{Resident, held, children, map_if}
 use Rattle.iris_cache.specs.Drafted.{Drafted, drafted}
-use Rattle.iris_cache.specs.Pictures.{parent_by}
+use Rattle.iris_cache.specs.Pictures.{parent_after}
 
 -- a node that comes by a draft: dirty and unsettled, without a pin, and nothing is out
 abbrev pub arrived : Option Name → Node → Held
@@ -52,10 +52,6 @@ spent change = record change { node = None }
 abbrev pub hung : Option Change → Option Held → Option Held
 hung None h = h
 hung (Some change) h = option_map (under change.parent) h
-
--- the parent of a name with the draft made
-abbrev pub parent_after : Drafted → Resident → Name → Option Name
-parent_after d c n = parent_by (drafted d n) (held c n)
 
 -- whether q is at most k - 1 parents up from where one starts
 abbrev pub above : (Name → Option Name) → ℕ → Option Name → Name → Bool

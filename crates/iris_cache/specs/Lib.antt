@@ -5,4 +5,5 @@ pub mod Rehash
 pub mod Applied
 pub mod Marked
 pub mod Pictures
+pub mod Needs
 pub mod Laws

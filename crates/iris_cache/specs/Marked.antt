@@ -4,7 +4,8 @@ use Rattle.iris_name.specs.declared.name.Name.{Name}
 use Rattle.iris_cache.specs.Held.{moved}
 use Rattle.iris_cache.specs.Resident.{Resident, held, map_if}
 use Rattle.iris_cache.specs.Drafted.{Drafted, drafted}
-use Rattle.iris_cache.specs.Applied.{above, parent_after, Changed}
+use Rattle.iris_cache.specs.Applied.{above, Changed}
+use Rattle.iris_cache.specs.Pictures.{parent_after}
 
 -- whether q is met on the way up from n, where one goes up at most as many parents as names are resident or drafted
 abbrev pub met : Drafted → Resident → Name → Name → Bool

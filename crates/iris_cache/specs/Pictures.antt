@@ -71,8 +71,8 @@ parent_by (Some change) h = change.parent
 parent_by None h = parent_in h
 
 -- the parent of a name with the changes made
-abbrev pub above : Drafted → Resident → Name → Option Name
-above d c n = parent_by (drafted d n) (held c n)
+abbrev pub parent_after : Drafted → Resident → Name → Option Name
+parent_after d c n = parent_by (drafted d n) (held c n)
 
 -- A cache pictures the table before, and with a draft over it the table after.
 pub record Drafts (old new : Shown) (d : Drafted) (c : Resident) : Type 0 where
@@ -83,8 +83,8 @@ pub record Drafts (old new : Shown) (d : Drafted) (c : Resident) : Type 0 where
   -- a hash that is held of an absent or a settled child was its true one before
   pub hashes : (n m : Name) (node : Node) (x : Hash32) → seen d c n ≡ Some node → Holds node m x → IsSettled (held c m) → IsHashOf (old m) x
   -- the parent of a node that is seen is seen, and is its parent in the new table
-  pub parents : (n p : Name) (node : Node) → seen d c n ≡ Some node → IsParent new p n → (above d c n ≡ Some p) × IsSome (seen d c p)
-  pub tied : (n p : Name) (node : Node) → seen d c n ≡ Some node → above d c n ≡ Some p → IsParent new p n
+  pub parents : (n p : Name) (node : Node) → seen d c n ≡ Some node → IsParent new p n → (parent_after d c n ≡ Some p) × IsSome (seen d c p)
+  pub tied : (n p : Name) (node : Node) → seen d c n ≡ Some node → parent_after d c n ≡ Some p → IsParent new p n
   -- a node that was taken away isn't live
   pub gone : (n : Name) → IsNodeName n → known d c n ≡ Some None → new n ≡ None
   -- a node that neither draft nor cache has stands for the same in both tables

@@ -5,7 +5,8 @@ ghost use Rattle.iris_name.specs.declared.name.Name.{Name as SpecName};
 ghost use Rattle.indexmap.specs.IndexMap.{IsUnique};
 ghost use Rattle.iris_name.specs.Names.{same_name};
 ghost use Rattle.iris_cache.specs.Held.{moved};
-ghost use Rattle.iris_cache.specs.Applied.{parent_after, above, Differs};
+ghost use Rattle.iris_cache.specs.Applied.{above, Differs};
+ghost use Rattle.iris_cache.specs.Pictures.{parent_after};
 ghost use Rattle.iris_cache.specs.Resident.{held, map_if};
 ghost use Rattle.iris_cache.specs.Marked.{Marks, MarksOne};
 

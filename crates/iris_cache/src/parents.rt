@@ -1,7 +1,7 @@
 //! The parents of names with changes made.
 
 ghost use Rattle.std.specs.Prelude.{◌≡◌};
-ghost use Rattle.iris_cache.specs.Pictures.{above};
+ghost use Rattle.iris_cache.specs.Pictures.{parent_after};
 
 use crate::cache::Cache;
 use crate::draft::Draft;
@@ -10,7 +10,7 @@ use iris_name::Name;
 impl Draft {
     /// The parent of a name with the changes made, where it has one.
     pub fn parent(&self, cache: &Cache, name: &Name) -> Option<Name>
-        ensures { result ≡ above self.now cache.now name.now }
+        ensures { result ≡ parent_after self.now cache.now name.now }
     {
         match self.changes.get(name) {
             Some(change) => change.parent,

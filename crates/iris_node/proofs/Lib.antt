@@ -5,3 +5,4 @@ pub mod Records
 pub mod Feeding
 pub mod Same
 pub mod Lengths
+pub mod Walking

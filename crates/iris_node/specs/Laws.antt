@@ -1,9 +1,11 @@
--- Laws of records.
+-- Laws of records, and of the walk.
 use Rattle.std.specs.Prelude.{◌≡◌, ◌≤◌, ℕ, length}
 use Rattle.iris_node.specs.declared.node.Node.{Node}
 use Rattle.iris_node.specs.declared.node.Node.TheVariants.{Entry, Part}
 use Rattle.iris_node.specs.Nodes.{IsNode}
 use Rattle.iris_node.specs.Spelling.{spelling}
+use Rattle.iris_node.specs.Unfolded.{Unfolded, blocks}
+use Rattle.iris_node.specs.Walk.{walk}
 
 -- two nodes of one spelling are one node
 abbrev pub OneSpelling : Type 0
@@ -17,3 +19,7 @@ most_bytes (Part p) = 81
 -- no record is larger
 abbrev pub Sizes : Type 0
 Sizes = (n : Node) → IsNode n → length (spelling n) ≤ most_bytes n
+
+-- an entry's count of blocks is the length of the walk at and below it
+abbrev pub WalkCounts : Type 0
+WalkCounts = (u : Unfolded) → length (walk u) ≡ blocks u

@@ -10,3 +10,4 @@ pub mod Laws
 pub mod Unfolded
 pub mod Local
 pub mod Trees
+pub mod Walk

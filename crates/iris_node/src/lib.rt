@@ -9,7 +9,7 @@ pub mod rules;
 pub mod sheet;
 pub mod writing;
 
-pub use laws::{one_spelling, sizes};
+pub use laws::{one_spelling, sizes, walk_counts};
 pub use node::{
     Body, EntryNode, Link, MOST_LENGTH, MOST_LEVEL, Node, PartNode, Side, is_same_node,
 };

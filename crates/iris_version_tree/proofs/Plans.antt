@@ -26,15 +26,16 @@ use Rattle.iris_cache.specs.declared.draft.Change.{Change}
 use Rattle.iris_cache.specs.Resident.{Resident, held}
 use Rattle.iris_cache.specs.Drafted.{Drafted, drafted, seen, known, known_by, there_by}
 use Rattle.iris_node.specs.Trees.{Shown, node_name, IsTree, IsParent, IsAbove, IsNodeName}
-use Rattle.iris_cache.specs.Pictures.{Pictures, IsSettled, above, parent_by, IsLike, Drafts, Holds, SideHolds, IsHashOf}
+use Rattle.iris_cache.specs.Pictures.{Pictures, IsSettled, parent_after, parent_by, IsLike, Drafts, Holds, SideHolds, IsHashOf}
+use Rattle.iris_cache.proofs.Lacking.{not_known, parent_named, unknown}
 use Rattle.iris_version_tree.specs.Versions.{Versioned, HasVersions, HadVersions, Reversions, IsOther, IsFileOf, whole, reversioned, places}
-use Rattle.iris_version_tree.specs.Needs.{Lacks, IsShort, IsTrueNeed, IsPartOver, IsFileNode, IsFileBody}
+use Rattle.iris_version_tree.specs.Needs.{Lacks, IsShort, IsPartOver, IsFileNode, IsFileBody}
 use Rattle.iris_version_tree.specs.Sides.{side_seen, over_name}
 use Rattle.iris_version_tree.specs.Reached.{IsTwo, IsSideOf, IsOver, IsLinkedSide, Reached}
 use Rattle.iris_version_tree.specs.Ranges.{Within, IsWithin, AtPart, Under, SideAt, Missing, IsMissing, IsNodeWith}
 use Rattle.iris_version_tree.proofs.Levels.{pow-pos, fits_up}
 use Rattle.iris_version_tree.proofs.Tables.{part_parent, two_above}
-use Rattle.iris_version_tree.proofs.Walks.{reached_top, unknown, true_need, parent_named, not_known, is_there}
+use Rattle.iris_version_tree.proofs.Walks.{reached_top, true_need, is_there}
 use Rattle.iris_version_tree.proofs.Hashes.{over_is}
 use Rattle.iris_version_tree.proofs.Likes.{two_node, node_with, like_with}
 use Rattle.iris_version_tree.proofs.Reversions.{local_kept, name_kept, above_forth, above_back, IsTopSide, unchanged}

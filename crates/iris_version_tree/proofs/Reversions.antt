@@ -15,8 +15,9 @@ use Rattle.iris_cache.specs.Resident.{Resident}
 use Rattle.iris_cache.specs.Drafted.{Drafted, seen, known, there_by}
 use Rattle.iris_node.specs.Trees.{Shown, node_name, IsTree, IsParent, IsAbove, IsNodeName}
 use Rattle.iris_cache.specs.Pictures.{Drafts}
+use Rattle.iris_cache.proofs.Lacking.{not_known, parent_named}
 use Rattle.iris_version_tree.specs.Versions.{reversioned}
-use Rattle.iris_version_tree.proofs.Walks.{parent_named, not_known, is_there}
+use Rattle.iris_version_tree.proofs.Walks.{is_there}
 
 module _ (f : ℕ) (s : Unfolded) where
   blocks_kept : (u : Unfolded) → blocks (reversioned f s u) ≡ blocks u

@@ -29,8 +29,10 @@ use Rattle.iris_cache.specs.Resident.{Resident, held}
 use Rattle.iris_cache.specs.Drafted.{Drafted, drafted, seen, known, known_by, there_by}
 use Rattle.iris_node.specs.Trees.{Shown, node_name, IsTree, IsParent, IsAbove, IsNodeName}
 use Rattle.iris_cache.specs.Pictures.{IsSettled, IsLike, Drafts, Holds, LinkHolds, SideHolds, BodyHolds, IsHashOf}
+use Rattle.iris_cache.proofs.Lacking.{parent_resident, unknown}
+use Rattle.iris_cache.specs.Needs.{IsTrueNeed, IsExpected}
 use Rattle.iris_version_tree.specs.Versions.{Versioned, HasVersions, places}
-use Rattle.iris_version_tree.specs.Needs.{IsTrueNeed, IsExpected, Lacks, IsLack, IsFirstLack, AreHoles}
+use Rattle.iris_version_tree.specs.Needs.{Lacks, IsLack, IsFirstLack, AreHoles}
 use Rattle.iris_version_tree.specs.Sides.{part_seen, side_seen, side_of_body, toward}
 use Rattle.iris_version_tree.specs.Reached.{IsTwo, IsSideOf, IsOver, IsLinked, IsLinkedSide, Reached}
 use Rattle.iris_version_tree.proofs.Levels.{over, div_step, fits_low, fits_high}
@@ -90,54 +92,6 @@ pub reached_top : (old new : Shown) (d : Drafted) (c : Resident) (file : FileId)
 reached_top old new d c file v s pic is = top_reached old new d c file v s (seen d c (name.Entry file)) pic refl is
 
 -- ---- what is missing
-
-unknown_by : (o : Option Change) (w : Option Held) → known_by o w ≡ None → (o ≡ None) × (w ≡ None)
-unknown_by None None h = (refl, refl)
-unknown_by None (Some w) h = cc
-unknown_by (Some x) w h = cc
-
-pub unknown : (d : Drafted) (c : Resident) (n : Name) → known d c n ≡ None → (drafted d n ≡ None) × (held c n ≡ None)
-unknown d c n h = unknown_by (drafted d n) (held c n) h
-
-own_name : (p : Name) (u w : Unfolded) → IsAbove u w → ((m : Name) → node_name u ≡ Some m → m ≡ p) → IsNodeName p
-own_name p (Folder id label less more inside) w a own = subst IsNodeName (own (name.Entry (id_of id)) refl) tt
-own_name p (Leaf id label less more size counter kept) w a own = subst IsNodeName (own (name.Entry (id_of id)) refl) tt
-own_name p (Split f l i x y) w a own = subst IsNodeName (own (name.Part (id_of f) l i) refl) tt
-own_name p Absent w a own = absurd a
-own_name p (Even v) w a own = absurd a
-own_name p (Stored v bytes) w a own = absurd a
-
--- a parent has the name of an entry or a part
-pub parent_named : (t : Shown) (p n : Name) → IsTree t → IsParent t p n → IsNodeName p
-parent_named t p n tree is = own_name p is.parent is.child is.above (λ m e. tree.own p m is.parent is.live e)
-
-not_live : (t : Shown) (p n : Name) → t p ≡ None → IsParent t p n → ⊥
-not_live t p n e is = let h = is.live in cc
-
-pub not_known : (d : Drafted) (c : Resident) (p : Name) → known d c p ≡ None → IsSome (seen d c p) → ⊥
-not_known d c p e h = let s : seen d c p ≡ None = ap there_by e in let P : Option Node → Type 0 = λ o. IsSome o in absurd (no-some (subst P s h))
-  where
-    no-some : IsSome {T = Node} None → ⊥
-    no-some h = cc
-
--- where a name is missing whose parent is seen, its parent before is resident
-parent_by : (old new : Shown) (d : Drafted) (c : Resident) (n q p : Name) (o : Option Change) (w : Option Held) → Drafts old new d c → IsTree old → IsTree new → IsParent new q n → IsSome (seen d c q) → IsParent old p n
-    → drafted d p ≡ o → held c p ≡ w → IsSome w
-parent_by old new d c n q p o (Some h) pic was is parent there before de he = refl
-parent_by old new d c n q p (Some x) None pic was is parent there before de he =
-    elim (pic.resident p x de) [
-      | inl r ↦ (let P : Option Held → Type 0 = λ o. IsSome o in subst P he r)
-      | inr r ↦ absurd (not_live old p n r before)
-    ]
-parent_by old new d c n q p None None pic was is parent there before de he =
-    let k : known d c p ≡ None = ap (λ o. known_by o (held c p)) de ∙ ap (known_by None) he in
-    let same = pic.away p (parent_named old p n was before) k in
-    let after : IsParent new p n = record { parent = before.parent; child = before.child; live = same ∙ before.live; above = before.above; named = before.named } in
-    let e : p ≡ q = is.once n p q after parent in
-    absurd (not_known d c p k (let P : Name → Type 0 = λ x. IsSome (seen d c x) in subst P (sym e) there))
-
-pub parent_resident : (old new : Shown) (d : Drafted) (c : Resident) (n q : Name) → Drafts old new d c → IsTree old → IsTree new → IsParent new q n → IsSome (seen d c q) → (p : Name) → IsParent old p n → IsSome (held c p)
-parent_resident old new d c n q pic was is parent there p before = parent_by old new d c n q p (drafted d p) (held c p) pic was is parent there before refl refl
 
 expected_by : (o : Option Unfolded) (h : Hash32) → IsSome o → IsHashOf o h → IsExpected (Hash h) o
 expected_by None h live is = absurd (let e : false ≡ true = live in cc)

@@ -27,7 +27,8 @@ use Rattle.iris_cache.specs.Rehash.{whole_part}
 use Rattle.iris_cache.specs.Resident.{Resident, held}
 use Rattle.iris_cache.specs.Drafted.{Drafted, drafted, seen, known, known_by, there_by, set_to}
 use Rattle.iris_node.specs.Trees.{Shown, node_name, IsTree, IsParent, IsAbove, IsNodeName}
-use Rattle.iris_cache.specs.Pictures.{Pictures, IsSettled, above, parent_by, IsLike, Drafts, Holds, SideHolds, BodyHolds, IsHashOf}
+use Rattle.iris_cache.specs.Pictures.{Pictures, IsSettled, parent_after, parent_by, IsLike, Drafts, Holds, SideHolds, BodyHolds, IsHashOf}
+use Rattle.iris_cache.proofs.Lacking.{not_known, unknown}
 use Rattle.iris_version_tree.specs.Versions.{Versioned, HasVersions, Reversions, IsOther, IsFileOf, whole, reversioned, places}
 use Rattle.iris_version_tree.specs.Needs.{IsFileNode, IsFileBody, HasEntryWith}
 use Rattle.iris_version_tree.specs.Sides.{entry_with, body_with, side_seen, side_of_body}
@@ -37,7 +38,7 @@ use Rattle.iris_version_tree.proofs.Levels.{pow-pos, fits_up}
 use Rattle.iris_version_tree.proofs.Tables.{part_parent, two_above, like_top}
 use Rattle.iris_version_tree.proofs.Spans.{not_same}
 use Rattle.iris_version_tree.proofs.Steps.{under_frame}
-use Rattle.iris_version_tree.proofs.Walks.{unknown, not_known, is_there}
+use Rattle.iris_version_tree.proofs.Walks.{is_there}
 use Rattle.iris_version_tree.proofs.Joins.{side_true}
 use Rattle.iris_version_tree.proofs.Likes.{two_node, like_with, top_set}
 use Rattle.iris_version_tree.proofs.Reversions.{local_kept, name_kept, unchanged}
@@ -51,7 +52,7 @@ pub record IsWritten (old : Shown) (d e : Drafted) (c : Resident) (file : FileId
   pub was : seen d c (name.Entry file) ≡ Some (node.Entry x)
   pub id : x.id ≡ file
   pub is : seen e c (name.Entry file) ≡ Some (node.Entry (entry_with s x))
-  pub over : above e c (name.Entry file) ≡ above d c (name.Entry file)
+  pub over : parent_after e c (name.Entry file) ≡ parent_after d c (name.Entry file)
   pub resident : (y : Change) → drafted e (name.Entry file) ≡ Some y → IsSome (held c (name.Entry file)) ⊎ (old (name.Entry file) ≡ None)
 
 entry_id : Name → ℕ
@@ -181,7 +182,7 @@ seen_same d e c n h = ap (λ o. there_by (known_by o (held c n))) h
 known_same : (d e : Drafted) (c : Resident) (n : Name) → drafted e n ≡ drafted d n → known e c n ≡ known d c n
 known_same d e c n h = ap (λ o. known_by o (held c n)) h
 
-above_same : (d e : Drafted) (c : Resident) (n : Name) → drafted e n ≡ drafted d n → above e c n ≡ above d c n
+above_same : (d e : Drafted) (c : Resident) (n : Name) → drafted e n ≡ drafted d n → parent_after e c n ≡ parent_after d c n
 above_same d e c n h = ap (λ o. parent_by o (held c n)) h
 
 body_hash : (s : Side) (id : FileId) (b : Body) (k : Name) (h : Hash32) → BodyHolds id (body_with s b) k h → BodyHolds id b k h ⊎ SideHolds (whole_part id) s k h
@@ -316,8 +317,8 @@ module _ (old new made : Shown) (file : FileId) (v w : ℕ → ℕ) (d e : Draft
   part_two : (l i : ℕ) (m : Node) → 1 ≤ l → Within 16 0 l i → seen e c (name.Part file l i) ≡ Some m → IsTwo (folded w l i)
   part_two l i m some h at = two_node file l i (folded w l i) m ((wr.under.parts l i some h).node m at)
 
-  parents_after : (n p : Name) (m : Node) → seen e c n ≡ Some m → IsParent made p n → (above e c n ≡ Some p) × IsSome (seen e c p)
-  parents_after = by_kind (λ n. (p : Name) (m : Node) → seen e c n ≡ Some m → IsParent made p n → (above e c n ≡ Some p) × IsSome (seen e c p))
+  parents_after : (n p : Name) (m : Node) → seen e c n ≡ Some m → IsParent made p n → (parent_after e c n ≡ Some p) × IsSome (seen e c p)
+  parents_after = by_kind (λ n. (p : Name) (m : Node) → seen e c n ≡ Some m → IsParent made p n → (parent_after e c n ≡ Some p) × IsSome (seen e c p))
       (λ p m at is.
       let b = parent_back new made file w p (name.Entry file) tree rev tt is in
       let g = pic.drafts.parents (name.Entry file) p (node.Entry x) wr.was b in
@@ -335,8 +336,8 @@ module _ (old new made : Shown) (file : FileId) (v w : ℕ → ℕ) (d e : Draft
       let g = pic.drafts.parents n p m (was n m k at) b in
       (above_same d e c n (same n k) ∙ g.0, seen_after p (other_parent new file v p n pic.is pic.versions b other) g.1))
 
-  tied_after : (n p : Name) (m : Node) → seen e c n ≡ Some m → above e c n ≡ Some p → IsParent made p n
-  tied_after = by_kind (λ n. (p : Name) (m : Node) → seen e c n ≡ Some m → above e c n ≡ Some p → IsParent made p n)
+  tied_after : (n p : Name) (m : Node) → seen e c n ≡ Some m → parent_after e c n ≡ Some p → IsParent made p n
+  tied_after = by_kind (λ n. (p : Name) (m : Node) → seen e c n ≡ Some m → parent_after e c n ≡ Some p → IsParent made p n)
       (λ p m at is. parent_forth new made file v w p (name.Entry file) pic.is pic.versions rev tt (pic.drafts.tied (name.Entry file) p (node.Entry x) wr.was (sym wr.over ∙ is)))
       (λ l i some h p m at is.
       let o = (wr.under.parts l i some h).over m at in
@@ -437,7 +438,7 @@ module _ (old new : Shown) (file : FileId) (v w : ℕ → ℕ) (d d1 : Drafted) 
 
   -- the side of all versions was set in the entry
   pub set : (e : Drafted) → ((n : Name) → same_name (name.Entry file) n ≡ false → drafted e n ≡ drafted d1 n)
-      → ((x : EntryFields) → seen d1 c (name.Entry file) ≡ Some (node.Entry x) → drafted e (name.Entry file) ≡ Some (set_to (above d1 c (name.Entry file)) (node.Entry (entry_with t x)))) → IsWritten old d e c file w t x
+      → ((x : EntryFields) → seen d1 c (name.Entry file) ≡ Some (node.Entry x) → drafted e (name.Entry file) ≡ Some (set_to (parent_after d1 c (name.Entry file)) (node.Entry (entry_with t x)))) → IsWritten old d e c file w t x
   set e same entry =
       let at = entry x (seen_same d d1 c (name.Entry file) entry_kept ∙ was) in
       record {
@@ -466,7 +467,7 @@ module _ (file : FileId) (d d1 : Drafted) (c : Resident) (s t : Side) (is : side
       let b : side_of_body x.body ≡ Some s = sym (ap side_seen was) ∙ is in
       (s, seen_same d d1 c (name.Entry file) (frame (name.Entry file) (λ q. q)) ∙ was ∙ ap (λ x. Some (node.Entry x)) (sym (entry_same x s b)))
 
-  pub set_entry : (e : Drafted) → ((x : EntryFields) → seen d1 c (name.Entry file) ≡ Some (node.Entry x) → drafted e (name.Entry file) ≡ Some (set_to (above d1 c (name.Entry file)) (node.Entry (entry_with t x))))
+  pub set_entry : (e : Drafted) → ((x : EntryFields) → seen d1 c (name.Entry file) ≡ Some (node.Entry x) → drafted e (name.Entry file) ≡ Some (set_to (parent_after d1 c (name.Entry file)) (node.Entry (entry_with t x))))
       → (x : EntryFields) → seen d c (name.Entry file) ≡ Some (node.Entry x) → HasEntryWith e c file x
   set_entry e entry x was =
       let at = entry x (seen_same d d1 c (name.Entry file) (frame (name.Entry file) (λ q. q)) ∙ was) in

@@ -17,6 +17,7 @@ use Rattle.iris_node.specs.Unfolded.{Unfolded, hash, node_of}
 use Rattle.iris_shape.specs.FoldLaws.{IsUnder}
 use Rattle.iris_cache.specs.declared.held.Short.{Short}
 use Rattle.iris_cache.specs.declared.held.Short.TheVariants.{Need, NoMemory}
+use Rattle.iris_cache.specs.Needs.{IsTrueNeed}
 use Rattle.iris_cache.specs.Resident.{Resident, held}
 use Rattle.iris_cache.specs.Drafted.{Drafted, drafted, seen}
 use Rattle.iris_node.specs.Trees.{Shown, IsParent}
@@ -51,18 +52,6 @@ abbrev pub IsPartOver : FileId → ℕ → ℕ → Name → Type 0
 IsPartOver file low high (name.Entry id) = ⊥
 IsPartOver file low high (name.Part g level index) = (g ≡ file) × Covers level index low high
 IsPartOver file low high (name.Block g place) = ⊥
-
--- what the record of a node has to show
-abbrev pub IsExpected : Expect → Option Unfolded → Type 0
-IsExpected x None = ⊥
-IsExpected (Hash h) (Some u) = option_map hash (node_of u) ≡ Some h
-IsExpected (Version version) (Some u) = ⊥
-
--- In each table that is pictured the name is live, now and before; before, this is its hash, and its parent is resident.
-pub record IsTrueNeed (old new : Shown) (c : Resident) (n : Name) (x : Expect) : Type 0 where
-  pub live : IsSome (new n)
-  pub expected : IsExpected x (old n)
-  pub parent : (p : Name) → IsParent old p n → IsSome (held c p)
 
 -- A plan over the places of a range lacks a part that covers one of them: neither draft nor cache has it.
 pub record Lacks (d : Drafted) (c : Resident) (file : FileId) (low high : ℕ) (n : Name) (x : Expect) : Type 0 where

@@ -8,7 +8,7 @@ ghost use Rattle.iris_node.specs.Rules.{IsFold};
 ghost use Rattle.iris_shape.specs.FoldLaws.{changed};
 ghost use Rattle.iris_cache.specs.Drafted.{drafted, seen, set_to};
 ghost use Rattle.iris_node.specs.Trees.{Shown, IsTree};
-ghost use Rattle.iris_cache.specs.Pictures.{above, Drafts};
+ghost use Rattle.iris_cache.specs.Pictures.{parent_after, Drafts};
 ghost use Rattle.iris_version_tree.specs.Versions.{Versioned, HadVersions, Reversions, places};
 ghost use Rattle.iris_version_tree.specs.Needs.{IsFile, HasEntryWith, IsShort};
 ghost use Rattle.iris_version_tree.specs.Sides.{body_with, entry_with, side_seen};
@@ -127,7 +127,7 @@ fn set_entry(
     versions: Side,
 ) -> Result<(), NoMemory>
     requires { IsFile draft.old cache.now file }
-    ensures entry { OnOk result ((e : EntryFields) → seen draft.old cache.now (Name.Entry file) ≡ Some (Node.Entry e) → drafted draft.new (Name.Entry file) ≡ Some (set_to (above draft.old cache.now (Name.Entry file)) (Node.Entry (entry_with versions e)))) }
+    ensures entry { OnOk result ((e : EntryFields) → seen draft.old cache.now (Name.Entry file) ≡ Some (Node.Entry e) → drafted draft.new (Name.Entry file) ≡ Some (set_to (parent_after draft.old cache.now (Name.Entry file)) (Node.Entry (entry_with versions e)))) }
     ensures frame { OnOk result ((n : SpecName) → same_name (Name.Entry file) n ≡ false → drafted draft.new n ≡ drafted draft.old n) }
 {
     let parent = draft.parent(cache, &Name::Entry { id: file });

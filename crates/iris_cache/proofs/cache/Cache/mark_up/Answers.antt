@@ -2,7 +2,8 @@ use Rattle.std.proofs.Common.{◌≡◌, ◌<◌, ◌-◌, ◌+◌, Some, length
 use Rattle.iris_cache.proofs.Rising.{above-none, marks_step, parent-marked}
 use Rattle.iris_cache.specs.Held.{moved}
 use Rattle.iris_cache.specs.Drafted.{Drafted, drafted}
-use Rattle.iris_cache.specs.Applied.{parent_after, above}
+use Rattle.iris_cache.specs.Applied.{above}
+use Rattle.iris_cache.specs.Pictures.{parent_after}
 use Rattle.iris_cache.specs.Resident.{Resident, held, map_if}
 use Rattle.iris_name.specs.Names.{same_name}
 use Rattle.iris_cache.proofs.cache.Cache.mark_up.Goals as goal

@@ -1,7 +1,8 @@
 use Rattle.std.proofs.Common.{◌≡◌, ◌-◌, Some, length}
 use Rattle.iris_name.specs.declared.name.Name.{Name}
 use Rattle.iris_cache.specs.Held.{moved}
-use Rattle.iris_cache.specs.Applied.{parent_after, above}
+use Rattle.iris_cache.specs.Applied.{above}
+use Rattle.iris_cache.specs.Pictures.{parent_after}
 use Rattle.iris_cache.specs.Resident.{held, map_if}
 use Rattle.iris_cache.proofs.cache.Cache.mark_up.Given as goal
 
