@@ -1,16 +1,14 @@
-use Rattle.std.proofs.Common.{◌≡◌, ◌*◌, ◌+◌, Option, Some, None, refl, ap, sym, ◌∙◌, subst, arith}
+use Rattle.std.proofs.Common.{◌*◌, ◌+◌, Some, ap, sym, ◌∙◌, subst}
 use Rattle.iris_name.specs.declared.name.Name.TheVariants as name
-use Rattle.iris_node.specs.declared.node.Side.{Side}
-use Rattle.iris_node.specs.declared.node.Side.TheVariants.{Fold as Same}
 use Rattle.iris_node.specs.declared.node.Node.TheVariants as node
 use Rattle.iris_node.specs.Fields.{PartFields}
-use Rattle.iris_shape.specs.Folds.{Fold, One, Two, folded}
+use Rattle.iris_shape.specs.Folds.{folded}
 use Rattle.iris_cache.specs.declared.draft.Change.{Change}
 use Rattle.iris_cache.specs.Resident.{held}
 use Rattle.iris_cache.specs.Drafted.{drafted, known, set_to, taken_away}
-use Rattle.iris_version_tree.specs.Sides.{over_name, common_of}
+use Rattle.iris_version_tree.specs.Sides.{over_name}
 use Rattle.iris_version_tree.specs.Reached.{IsTwo, IsSideOf}
-use Rattle.iris_version_tree.specs.Ranges.{AtPart, SideAt}
+use Rattle.iris_version_tree.specs.Ranges.{AtPart}
 use Rattle.iris_version_tree.proofs.Levels.{index_fits}
 use Rattle.iris_version_tree.proofs.Tables.{same_one}
 use Rattle.iris_version_tree.proofs.Hashes.{over_is}

@@ -1,4 +1,3 @@
-use Rattle.std.proofs.Common.{◌≡◌, sym, ◌∙◌}
 use Rattle.std.proofs.lemmas.Result.{err_from_is_err_and}
 use Rattle.iris_name.specs.declared.name.Name.TheVariants as name
 use Rattle.iris_cache.specs.Drafted.{seen}

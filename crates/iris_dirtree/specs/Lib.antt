@@ -1,0 +1,5 @@
+pub mod Rows
+pub mod Hands
+pub mod Ways
+pub mod Needs
+pub mod Places

@@ -1,0 +1,6 @@
+//! The treap of a directory, changed in place over cache and draft.
+#![tactic(auto)]
+
+pub mod kinds;
+
+pub use kinds::is_directory;
