@@ -3,3 +3,4 @@ pub mod Hands
 pub mod Ways
 pub mod Needs
 pub mod Places
+pub mod Planted

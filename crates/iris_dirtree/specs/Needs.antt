@@ -17,7 +17,7 @@ use Rattle.iris_cache.specs.Drafted.{Drafted, drafted, seen}
 use Rattle.iris_cache.specs.Needs.{IsExpected}
 use Rattle.iris_cache.specs.Pictures.{Drafts}
 use Rattle.iris_dirtree.specs.Rows.{Row, HasRows, IsRooted, IsRootName}
-use Rattle.iris_dirtree.specs.Hands.{InHand}
+use Rattle.iris_dirtree.specs.Hands.{Holding}
 use Rattle.iris_dirtree.specs.Ways.{Any}
 
 abbrev pub IsDirBody : Body → Type 0
@@ -45,7 +45,7 @@ pub record ListedInHand (key : List ℕ) (dir : FileId) (x : Row) (d : Drafted) 
   pub was : IsTree old
   pub rooted : IsRooted old
   pub is : IsTree new
-  pub hand : InHand old new x d c
+  pub hand : Holding old new (Some x) d c
   pub rows_are : HasRows new key dir rows
 
 -- The name is live, now and before; its parent before is resident. Before, this is its hash; for a root any hash may be told.
