@@ -1,5 +1,5 @@
 -- The walk over a table's blocks is that over its files in preorder.
-use Rattle.std.proofs.Common.{◌≡◌, inl, inr, ℕ, zero, suc, ◌+◌, ◌<◌, ◌≤◌, List, [], ◌∷◌, ◌++◌, length, cond, Option, Some, None, Contains, slice_index_or, refl, sym, ◌∙◌, ap, subst, arith, append_assoc}
+use Rattle.std.proofs.Common.{◌≡◌, inl, inr, ℕ, zero, suc, ◌+◌, ◌<◌, ◌≤◌, List, [], ◌∷◌, ◌++◌, cond, Option, Some, None, Contains, refl, sym, ◌∙◌, ap, subst, arith, append_assoc}
 use Rattle.std.specs.Prelude.{nat_lt}
 use Rattle.std.proofs.lemmas.List.{append-nil}
 use Rattle.std.proofs.lemmas.List.Elements.{Contains-append_cases}
@@ -14,7 +14,7 @@ use Rattle.iris_table.specs.Challenges.{table_walk}
 use Rattle.iris_table.specs.declared.item.Item.{Item}
 use Rattle.iris_table.specs.Items.{grown, kept_file, most_depth, IsForestTo, IsForest}
 use Rattle.iris_table.specs.Places.{Kept}
-use Rattle.iris_table.specs.Rows.{File, Rows, End, Row, Table}
+use Rattle.iris_table.specs.Rows.{File, Rows, End, Row}
 use Rattle.iris_table.specs.Shown.{Own, own_id, entry, entries, arranged, owns, directory}
 use Rattle.iris_table.specs.Stops.{table_over}
 use Rattle.iris_table.specs.Strides.{own_file, files_of, blocks_of_all}

@@ -10,7 +10,7 @@ use Rattle.iris_name.specs.declared.request.Request.{Request}
 use Rattle.iris_name.specs.declared.request.Request.TheVariants.{Mkdir, Create, Write, Read, Resize, Stat, List as ListNames, Rename, Remove, Sync, Root, Reclaim, Probe}
 use Rattle.iris_plain.specs.Checks.{blocks_of, size_of}
 use Rattle.iris_plain.specs.Routes.{before, parent, last}
-use Rattle.iris_table.specs.Changes.{written, cut, freed, filled, hex_digit, hex_digits, trash_name, gone, made, filed, removed, moved, emptied, retrashed, reclaimed, by_names, seen_in, changed, table_verdict, stepped}
+use Rattle.iris_table.specs.Changes.{written, cut, freed, filled, hex_digit, hex_digits, trash_name, gone, made, filed, removed, moved, emptied, retrashed, reclaimed, by_names, seen_in, changed, table_verdict}
 use Rattle.iris_table.specs.Rows.{File, Rows, End, Row, Table, Taken, find, put, without, at, file_at, on_file, Found, Here, Missing, Through, resolved, followed, entered, met, root, empty_file}
 use Rattle.iris_table.specs.Texts.{AreTexts, HasTexts}
 use Rattle.iris_table.specs.TextsStay.{IsOfTexts, TextsBegin, TextsStay}

@@ -11,7 +11,7 @@ use crate::item::Item;
 use iris_name::{FileId, PlainError, Reply};
 
 /// What a walk over the blocks of rows meets at a place.
-#[derive(Clone, Copy, Debug, PartialEq, Eq)]
+#[derive(Clone, Copy, Debug)]
 pub enum Met {
     /// The block of a place of a file, with the version of the place.
     Block {

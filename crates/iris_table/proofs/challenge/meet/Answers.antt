@@ -1,4 +1,4 @@
-use Rattle.std.proofs.Common.{◌-◌, ◌≤◌, ◌<◌, ◌+◌, drop, length, get_or, sym, subst, arith}
+use Rattle.std.proofs.Common.{◌+◌, drop, get_or, sym, subst, arith}
 use Rattle.std.proofs.lemmas.List.{drop_all}
 use Rattle.iris_table.specs.declared.challenge.Met.{Met}
 use Rattle.iris_table.specs.declared.challenge.Met.TheVariants.{Block, Past}
