@@ -1,13 +1,10 @@
 -- Runs of the plain file system.
-use Rattle.std.proofs.Common.{◌≡◌, ◌≢◌, ◌⊎◌, inl, inr, ℕ, zero, suc, ◌+◌, ◌==◌, ◌≤◌, ◌<◌, List, [], ◌∷◌, ◌++◌, length, take, drop, get_or, Bool, true, false, Option, Some, None, Result, Ok, Err, IfSome, IfNone, refl, sym, ◌∙◌, ap, subst, arith, append_assoc}
-use Rattle.std.specs.Prelude.{◌↔◌, if◌then◌else◌}
+use Rattle.std.proofs.Common.{◌≡◌, ℕ, ◌+◌, ◌≤◌, ◌<◌, List, [], ◌∷◌, ◌++◌, length, drop, get_or, Option, Some, None, Err, refl, sym, ◌∙◌, ap, subst, arith, append_assoc}
 use Rattle.std.proofs.lemmas.List.{drop_more, drop_all}
 use Rattle.iris_name.specs.declared.request.Request.{Request}
-use Rattle.iris_name.specs.declared.request.Request.TheVariants as request
 use Rattle.iris_name.specs.declared.request.Reply.{Reply}
 use Rattle.iris_name.specs.Hmac.{order_key}
-use Rattle.iris_script.specs.Printing.{reply_line}
-use Rattle.iris_script.specs.Script.{Asks, AllAsk, IsFault as IsScriptFault, script_lines}
+use Rattle.iris_script.specs.Script.{AllAsk, IsFault as IsScriptFault, script_lines}
 use Rattle.iris_script.specs.declared.script.ScriptError.{ScriptError}
 use Rattle.iris_script.specs.declared.script.ScriptError.TheVariants as script
 use Rattle.iris_table.specs.Changes.{stepped}
@@ -15,8 +12,7 @@ use Rattle.iris_table.specs.Replies.{TableReplies}
 use Rattle.iris_table.specs.Rows.{Table, empty_table}
 use Rattle.iris.specs.declared.reading.ReadError.{ReadError}
 use Rattle.iris.specs.declared.reading.ReadError.TheVariants as read
-use Rattle.iris.specs.Notes.{printed_from}
-use Rattle.iris.specs.Plain.{said_to, AreRight, ArePlain, Served, WasAsked, IsEnd, halt_of_read, halt_of_script}
+use Rattle.iris.specs.Plain.{AreRight, ArePlain, Served, WasAsked, IsEnd, halt_of_read, halt_of_script}
 use Rattle.iris.specs.Reading.{IsAllOf, IsWithin, MayEnd}
 
 abbrev Call : Type 0

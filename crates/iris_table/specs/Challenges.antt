@@ -13,7 +13,7 @@ use Rattle.iris_table.specs.Shown.{root_entry, trash_entry}
 unfoldable pub table_walk : List ℕ → Table → List BlockAt
 table_walk order t = walk (root_entry order t) ++ walk (trash_entry order t)
 
--- the reply to a challenge for a block: the file and the place, with the version that this place has in the file; where there is no block, that
+-- the reply to a challenge: the block that stands there, with the version of its place in its file, or that none is found
 abbrev pub IsProbed : Table → Option BlockAt → Reply → Type 0
 IsProbed t None reply = reply ≡ Plain NotFound
 IsProbed t (Some b) reply = (f : File) × Stands b.file f t × (reply ≡ Probed (id_of b.file) b.place (f.version b.place))

@@ -1,7 +1,6 @@
 use Rattle.std.proofs.Common.{◌∙◌, ap, subst, sym, take}
 use Rattle.std.proofs.lemmas.Result.{err_from_is_err_and}
 use Rattle.iris_name.specs.Told.{extended}
-use Rattle.iris_script.specs.Script.{AllAsk, script_lines}
 use Rattle.iris_table.specs.Rows.{empty_table}
 use Rattle.iris.specs.Plain.{AreRight, printed_to}
 use Rattle.iris.proofs.Plains.{script_end, served}
