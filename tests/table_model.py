@@ -123,9 +123,24 @@ class Table:
         both = [sha(self.record(b"", row, b"\0", b"\0")[0]) for row in (self.root, self.trash)]
         return sha(both[0] + both[1] + self.next.to_bytes(8, "big"))
 
+    def walk(self, rows):
+        """The blocks of rows as their treap is walked over, holes too: file, place and version."""
+        if not rows:
+            return []
+        name, top = max(rows, key=lambda named: self.priority(named[1]))
+        own = [(top.id, place, top.versions.get(place, 0)) for place in range(top.own_blocks())]
+        middle = own if top.is_file else self.walk(list(top.inside.items()))
+        return self.walk([r for r in rows if r[0] < name]) + middle + self.walk([r for r in rows if r[0] > name])
+
+    def probe(self, at):
+        blocks = [block for row in (self.root, self.trash) for block in self.walk(list(row.inside.items()))]
+        return "probed %d %d %d" % blocks[at] if at < len(blocks) else "error 1 NotFound"
+
     def reply(self, request, *args):
         if request == "reclaim":
             return self.reclaim()
+        if request == "probe":
+            return self.probe(*args)
         if request == "root":
             return "digest " + self.root_hash().hex()
         said = self.plain.reply(request, *args)

@@ -1,5 +1,5 @@
 -- What the end of a run of the plain file system gives, clause by clause.
-use Rattle.std.proofs.Common.{◌≡◌, ◌≢◌, ◌⊎◌, inl, inr, ℕ, ◌≤◌, ◌<◌, List, length, Option, Some, None, Result, Ok, Err, refl, sym, ◌∙◌, ap, subst, arith}
+use Rattle.std.proofs.Common.{◌≡◌, ◌⊎◌, inl, inr, ℕ, ◌≤◌, ◌<◌, List, length, Option, Some, Result, Ok, Err, refl, ap, subst, arith}
 use Rattle.std.specs.Prelude.{◌↔◌}
 use Rattle.iris_name.specs.declared.request.Request.{Request}
 use Rattle.iris_script.specs.Script.{AllAsk, IsFirst, IsNoRequest, NamesFarClient, script_lines}
@@ -8,7 +8,7 @@ use Rattle.iris.specs.declared.plain.Halt.{Halt}
 use Rattle.iris.specs.declared.plain.Halt.TheVariants.{Stopped, FarClient}
 use Rattle.iris.specs.declared.top.Stop.TheVariants.{BadWords, BadLine, Unread, Unwritten, TooLong, NoMemory}
 use Rattle.iris.specs.Outside.{IsFault}
-use Rattle.iris.specs.Plain.{ArePlain, AreNotPlain, IsEnd, FirstLine, Served, WasAsked, ended_as}
+use Rattle.iris.specs.Plain.{ArePlain, AreNotPlain, IsEnd, FirstLine, WasAsked, ended_as}
 use Rattle.iris.specs.Reading.{HasMoreThan, IsWithin}
 
 abbrev Bytes : Type 0

@@ -1,22 +1,18 @@
 -- Runs of the plain file system.
-use Rattle.std.proofs.Common.{◌≡◌, ◌≢◌, ◌⊎◌, inl, inr, ℕ, zero, suc, ◌+◌, ◌==◌, ◌≤◌, ◌<◌, List, [], ◌∷◌, ◌++◌, length, take, drop, get_or, Bool, true, false, Option, Some, None, Result, Ok, Err, IfSome, IfNone, refl, sym, ◌∙◌, ap, subst, arith, append_assoc}
-use Rattle.std.specs.Prelude.{◌↔◌, if◌then◌else◌}
+use Rattle.std.proofs.Common.{◌≡◌, ℕ, ◌+◌, ◌≤◌, ◌<◌, List, [], ◌∷◌, ◌++◌, length, drop, get_or, Option, Some, None, Err, refl, sym, ◌∙◌, ap, subst, arith, append_assoc}
 use Rattle.std.proofs.lemmas.List.{drop_more, drop_all}
 use Rattle.iris_name.specs.declared.request.Request.{Request}
-use Rattle.iris_name.specs.declared.request.Request.TheVariants as request
 use Rattle.iris_name.specs.declared.request.Reply.{Reply}
 use Rattle.iris_name.specs.Hmac.{order_key}
-use Rattle.iris_script.specs.Printing.{reply_line}
-use Rattle.iris_script.specs.Script.{Asks, AllAsk, IsFault as IsScriptFault, script_lines}
+use Rattle.iris_script.specs.Script.{AllAsk, IsFault as IsScriptFault, script_lines}
 use Rattle.iris_script.specs.declared.script.ScriptError.{ScriptError}
 use Rattle.iris_script.specs.declared.script.ScriptError.TheVariants as script
 use Rattle.iris_table.specs.Changes.{stepped}
-use Rattle.iris_table.specs.Replies.{TableReplies, IsServed}
+use Rattle.iris_table.specs.Replies.{TableReplies}
 use Rattle.iris_table.specs.Rows.{Table, empty_table}
 use Rattle.iris.specs.declared.reading.ReadError.{ReadError}
 use Rattle.iris.specs.declared.reading.ReadError.TheVariants as read
-use Rattle.iris.specs.Notes.{printed_from}
-use Rattle.iris.specs.Plain.{said_to, AreRight, AllServed, ArePlain, Served, WasAsked, IsEnd, halt_of_read, halt_of_script}
+use Rattle.iris.specs.Plain.{AreRight, ArePlain, Served, WasAsked, IsEnd, halt_of_read, halt_of_script}
 use Rattle.iris.specs.Reading.{IsAllOf, IsWithin, MayEnd}
 
 abbrev Call : Type 0
@@ -25,34 +21,9 @@ Call = ℕ × Request
 abbrev Said : Type 0
 Said = ℕ × Reply
 
--- a script asks only what the table serves
-asked_served : (words : List (List ℕ)) (r : Request) → Asks words r → IsServed r
-asked_served words (request.Mkdir path) h = tt
-asked_served words (request.Create path) h = tt
-asked_served words (request.Write path offset bytes) h = tt
-asked_served words (request.Read path offset len) h = tt
-asked_served words (request.Resize path len) h = tt
-asked_served words (request.Stat path) h = tt
-asked_served words (request.List path after) h = tt
-asked_served words (request.Rename from to) h = tt
-asked_served words (request.Remove path) h = tt
-asked_served words request.Sync h = tt
-asked_served words request.Root h = tt
-asked_served words request.Reclaim h = tt
-asked_served words (request.Probe at) h = h
-
-pub all_served : (lines : List (List ℕ)) (calls : List Call) → AllAsk lines calls → AllServed calls
-all_served [] calls h = subst AllServed (sym h) tt
-all_served (line ∷ lines) calls (inl skipped) = all_served lines calls skipped.1
-all_served (line ∷ lines) calls (inr h) = subst AllServed (sym h.2) (asked_served h.3.0.rest h.0.1 h.3.0.asks, all_served lines h.1 h.4)
-
 -- what is left of the calls begins with this one
 left : (calls : List Call) (i : ℕ) (call : Call) → call ≡ get_or calls i call → i < length calls → drop i calls ≡ call ∷ drop (i + 1) calls
 left calls i call at inside = drop_more calls i call inside ∙ ap (λ z. z ∷ drop (i + 1) calls) (sym at)
-
-pub next_served : (calls : List Call) (i : ℕ) (call : Call) → call ≡ get_or calls i call → i < length calls
-    → AllServed (drop i calls) → IsServed call.1 × AllServed (drop (i + 1) calls)
-next_served calls i call at inside h = subst AllServed (left calls i call at inside) h
 
 -- one call more
 pub served_more : (key : List ℕ) (t : Table) (calls : List Call) (i : ℕ) (call : Call) (done : List Said) (reply : Reply) → call ≡ get_or calls i call → i < length calls

@@ -1,5 +1,5 @@
 -- A whole run of the plain file system over a table, as its caller sees it.
-use Rattle.std.specs.Prelude.{◌≡◌, ◌≢◌, ◌⊎◌, ℕ, zero, suc, ◌==◌, ◌≤◌, List, [], ◌∷◌, ◌++◌, length, take, codes, Option, Some, None, Result, Ok, Err, if◌then◌else◌}
+use Rattle.std.specs.Prelude.{◌≡◌, ◌≢◌, ℕ, zero, suc, ◌==◌, List, [], ◌∷◌, ◌++◌, take, codes, Option, Some, None, Result, Ok, Err, if◌then◌else◌}
 use Rattle.iris_name.specs.declared.request.Request.{Request}
 use Rattle.iris_name.specs.declared.request.Reply.{Reply}
 use Rattle.iris_name.specs.Hmac.{order_key}
@@ -8,7 +8,7 @@ use Rattle.iris_script.specs.Script.{AllAsk, IsFirst, IsNoRequest, NamesFarClien
 use Rattle.iris_script.specs.declared.script.ScriptError.{ScriptError}
 use Rattle.iris_script.specs.declared.script.ScriptError.TheVariants as script
 use Rattle.iris_table.specs.Changes.{stepped}
-use Rattle.iris_table.specs.Replies.{TableReplies, IsServed}
+use Rattle.iris_table.specs.Replies.{TableReplies}
 use Rattle.iris_table.specs.Rows.{Table, empty_table}
 use Rattle.iris.specs.declared.plain.Halt.{Halt}
 use Rattle.iris.specs.declared.plain.Halt.TheVariants.{Stopped, FarClient}
@@ -35,11 +35,6 @@ abbrev pub AreRight : List ℕ → Table → List (ℕ × Request) → List (ℕ
 AreRight key t [] replies = replies ≡ []
 AreRight key t (call ∷ calls) [] = ⊥
 AreRight key t (call ∷ calls) (said ∷ more) = (said.0 ≡ call.0) × TableReplies key t call.1 said.1 × AreRight key (stepped t call.1) calls more
-
--- each request is one that the table serves
-abbrev pub AllServed : List (ℕ × Request) → Type 0
-AllServed [] = Unit {0}
-AllServed (call ∷ calls) = IsServed call.1 × AllServed calls
 
 -- the words are `plain` and the digits of that master key
 abbrev pub ArePlain : List (List ℕ) → List ℕ → Type 0

@@ -8,7 +8,7 @@ ghost use Rattle.iris_table.specs.Rows.{empty_table};
 ghost use Rattle.iris.specs.Commands.{IsStatus};
 ghost use Rattle.iris.specs.Notes.{printed};
 ghost use Rattle.iris.specs.Outside.{IsFault};
-ghost use Rattle.iris.specs.Plain.{ArePlain, AreNotPlain, AllServed, AreRight, IsEnd, IsPrinted, IsCutShort, FirstLine, said_to, printed_to, ended_as};
+ghost use Rattle.iris.specs.Plain.{ArePlain, AreNotPlain, AreRight, IsEnd, IsPrinted, IsCutShort, FirstLine, said_to, printed_to, ended_as};
 ghost use Rattle.iris.specs.Reading.{HasMoreThan};
 
 use crate::outside::{Sink, Source};
@@ -72,7 +72,6 @@ fn serve_calls(
     keys: &Keys,
     calls: &[(u32, Request)],
 ) -> Result<Vec<(u32, Reply)>, NoMemory>
-    requires { AllServed calls.now }
     ensures { IfOk result (λ replies. AreRight keys.now.order empty_table calls.now replies.items) }
 {
     let mut table = Table::new(alloc, keys)?;

@@ -14,7 +14,8 @@ use Rattle.iris_shape.specs.Local.{either}
 use Rattle.iris_shape.specs.Order.{beside}
 use Rattle.iris_shape.specs.Treap.{Treap, Empty, Over, treap}
 use Rattle.iris_table.specs.Rows.{File, Rows, End, Row, Table}
-use Rattle.iris_table.specs.Shown.{Own, own_id, side, versions, entry, entries, owns, directory, entry_in, part_in, in_directory, in_parts, in_file, inside_rows, root_entry, trash_entry, shown}
+use Rattle.iris_shape.specs.Sides.{side}
+use Rattle.iris_table.specs.Shown.{Own, own_id, versions, entry, entries, owns, directory, entry_in, part_in, in_directory, in_parts, in_file, inside_rows, root_entry, trash_entry, shown}
 use Rattle.iris_table.specs.Sound.{IsSound}
 use Rattle.iris_table.specs.Walks.{at_top}
 use Rattle.iris_table.specs.Parents.{OneParent}

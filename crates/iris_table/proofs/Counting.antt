@@ -17,7 +17,8 @@ use Rattle.iris_shape.specs.Treap.{Treap, Empty, Over, treap}
 use Rattle.iris_shape.proofs.FoldProofs.{of_low, of_high}
 use Rattle.iris_table.specs.Pieces.{IsHalved}
 use Rattle.iris_table.specs.Rows.{File, Rows, End, Row}
-use Rattle.iris_table.specs.Shown.{Own, own_id, side, versions, entry, entries, owns, directory}
+use Rattle.iris_shape.specs.Sides.{side}
+use Rattle.iris_table.specs.Shown.{Own, own_id, versions, entry, entries, owns, directory}
 use Rattle.iris_table.specs.Sound.{times}
 use Rattle.iris_table.proofs.Blocking.{folded_halved}
 use Rattle.iris_table.proofs.Nesting.{Nest, many, nest}

@@ -7,8 +7,10 @@ use Rattle.iris_name.specs.Paths.{names_of}
 use Rattle.iris_table.specs.Rows.{File, Rows, End, Row, Table, Found, Here, Missing, Through, met, empty_table}
 use Rattle.iris_table.specs.Changes.{trash_name}
 use Rattle.iris_table.specs.Ages.{after}
+use Rattle.iris_table.specs.Challenges.{table_walk}
 use Rattle.iris_table.specs.Shown.{shown, directory}
 use Rattle.iris_node.specs.Unfolded.{Unfolded, Absent, Folder, Stored}
+use Rattle.iris_node.specs.Walk.{BlockAt}
 use Rattle.iris_name.specs.declared.name.FileId.{FileId}
 use Rattle.iris_name.specs.declared.name.Name.TheVariants.{Entry, Block}
 
@@ -118,3 +120,14 @@ gap_shown : (order : List ℕ) → (shown order gap (Block (id 2) 0) ≡ None) �
     × (stored (shown order (after gap (Remove (codes "/f") ∷ [])) (Block (id 2) 1)) ≡ 1)
 unfolding shown names_of
 gap_shown order = (refl, refl, refl)
+
+-- a file in a directory is walked over before one in the trash, and holes count
+abbrev walked : Table
+walked = after empty_table (Mkdir (codes "/d") ∷ Create (codes "/d/f") ∷ Write (codes "/d/f") 5000 (255 ∷ []) ∷ Remove (codes "/d/f") ∷ Create (codes "/d/h") ∷ Write (codes "/d/h") 0 (1 ∷ []) ∷ [])
+
+abbrev block : ℕ → ℕ → BlockAt
+block file place = record { file = file; place = place }
+
+walked_blocks : (order : List ℕ) → table_walk order walked ≡ block 4 0 ∷ block 3 0 ∷ block 3 1 ∷ []
+unfolding table_walk directory names_of
+walked_blocks order = refl

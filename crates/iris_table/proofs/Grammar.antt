@@ -19,7 +19,8 @@ use Rattle.iris_shape.proofs.FoldProofs.{one_fold}
 use Rattle.iris_shape.proofs.Treaps.{every_treap}
 use Rattle.iris_table.specs.Pieces.{IsHalved}
 use Rattle.iris_table.specs.Rows.{File, Rows, End, Row}
-use Rattle.iris_table.specs.Shown.{Own, own_id, side, versions, entry, entries, arranged, owns, directory}
+use Rattle.iris_shape.specs.Sides.{side}
+use Rattle.iris_table.specs.Shown.{Own, own_id, versions, entry, entries, arranged, owns, directory}
 use Rattle.iris_table.specs.Sound.{times, rows_in, AllFiles, IsShort, IsCounted, IsOrdered}
 use Rattle.iris_table.specs.Texts.{AreTexts, NodesFit}
 use Rattle.iris_table.proofs.Blocking.{folded_halved}

@@ -58,3 +58,5 @@ pub mod Telling
 pub mod Grammar
 pub mod Texting
 pub mod Rooting
+pub mod Striding
+pub mod Challenging

@@ -21,7 +21,8 @@ use Rattle.std.proofs.Math.Nat.{pow-suc}
 use Rattle.iris_table.specs.Unmade.{unmade_fold}
 use Rattle.iris_table.proofs.Unmaking.{unmade_two}
 use Rattle.iris_table.specs.Records.{Records, looked, spelled}
-use Rattle.iris_table.specs.Shown.{side, part_in, in_parts}
+use Rattle.iris_shape.specs.Sides.{side}
+use Rattle.iris_table.specs.Shown.{part_in, in_parts}
 use Rattle.iris_table.specs.Pieces.{Adds, IsHalved, AreApart}
 
 pub either_assoc : {A : Type 0} → (a b c : Option A) → either a (either b c) ≡ either (either a b) c

@@ -13,7 +13,8 @@ use Rattle.iris_shape.specs.Local.{either}
 use Rattle.iris_shape.specs.Order.{beside}
 use Rattle.iris_shape.specs.Treap.{Treap, Empty, Over, treap}
 use Rattle.iris_table.specs.Rows.{File, Rows, End, Row}
-use Rattle.iris_table.specs.Shown.{Own, own_id, side, versions, entry, entries, arranged, owns, directory, entry_in, part_in, block_in, in_directory, in_parts, in_file, inside_rows}
+use Rattle.iris_shape.specs.Sides.{side}
+use Rattle.iris_table.specs.Shown.{Own, own_id, versions, entry, entries, arranged, owns, directory, entry_in, part_in, block_in, in_directory, in_parts, in_file, inside_rows}
 use Rattle.iris_table.proofs.Counting.{inside_by, inside_own}
 use Rattle.iris_table.proofs.Nesting.{Nest, Both, Holds, nest}
 use Rattle.iris_table.proofs.Sorting.{Some_row, Some_in, in_treap}

@@ -14,7 +14,8 @@ use Rattle.iris_shape.specs.Treap.{Treap, Empty, Over, Each, Every, treap}
 use Rattle.iris_shape.proofs.Treaps.{every_treap}
 use Rattle.iris_table.specs.Rows.{File, Rows, End, Row, Table}
 use Rattle.iris_table.specs.Sameness.{SameWhereSaid}
-use Rattle.iris_table.specs.Shown.{Own, own_id, side, entry, entries, arranged, owns, directory, root_entry, trash_entry, shown}
+use Rattle.iris_shape.specs.Sides.{side}
+use Rattle.iris_table.specs.Shown.{Own, own_id, entry, entries, arranged, owns, directory, root_entry, trash_entry, shown}
 use Rattle.iris_table.specs.Sound.{IsSound}
 use Rattle.iris_table.proofs.Branching.{trees, trees_own, held_shown, seen_node, shown_stands}
 use Rattle.iris_table.proofs.Nesting.{Nest, Both, Holds, nest, inner}

@@ -14,6 +14,8 @@ pub mod Pieces
 pub mod Walks
 pub mod Stops
 pub mod Served
+pub mod Challenges
+pub mod Strides
 pub mod Replies
 pub mod Parents
 pub mod Sameness

@@ -1,11 +1,12 @@
 -- The replies to requests by the table.
-use Rattle.std.specs.Prelude.{◌≡◌, ℕ, List, Bool, true, false}
+use Rattle.std.specs.Prelude.{◌≡◌, ℕ, List, Bool, true, false, slice_get}
 use Rattle.iris_name.specs.declared.request.Request.{Request}
 use Rattle.iris_name.specs.declared.request.Request.TheVariants.{Mkdir, Create, Write, Read, Resize, Stat, List as ListNames, Rename, Remove, Sync, Root, Reclaim, Probe}
 use Rattle.iris_name.specs.declared.request.Reply.{Reply}
 use Rattle.iris_name.specs.declared.request.Reply.TheVariants.{Synced, Digest, Reclaimed}
 use Rattle.iris_plain.specs.Steps.{PlainReplies, Judged, Accepted}
 use Rattle.iris_table.specs.Rows.{Rows, End, Row, Table}
+use Rattle.iris_table.specs.Challenges.{table_walk, IsProbed}
 use Rattle.iris_table.specs.Changes.{table_verdict, stepped}
 use Rattle.iris_table.specs.Records.{root_hash}
 use Rattle.iris_table.specs.View.{view}
@@ -19,8 +20,8 @@ is_left (Row id name file inside next) = true
 abbrev pub Told : Table → Request → Reply → Type 0
 Told t request reply = Judged (table_verdict t request) (Accepted (view t).files request reply) reply
 
--- the reply of the table with this order key: that of its view to a plain request, its root hash, and whether a step of
--- reclaiming leaves trash
+-- the reply of the table with this order key: that of its view to a plain request, its root hash, whether a step of
+-- reclaiming leaves trash, and the block at a place of its walk
 abbrev pub TableReplies : List ℕ → Table → Request → Reply → Type 0
 TableReplies key t (Mkdir path) reply = PlainReplies (view t) (Mkdir path) reply
 TableReplies key t (Create path) reply = PlainReplies (view t) (Create path) reply
@@ -34,20 +35,4 @@ TableReplies key t (Remove path) reply = PlainReplies (view t) (Remove path) rep
 TableReplies key t Sync reply = reply ≡ Synced
 TableReplies key t Root reply = reply ≡ Digest (record { 0 = root_hash key t })
 TableReplies key t Reclaim reply = reply ≡ Reclaimed (is_left (stepped t Reclaim).trash)
-TableReplies key t (Probe at) reply = ⊥
-
--- a request that is served so far: not for a challenged place
-abbrev pub IsServed : Request → Type 0
-IsServed (Mkdir path) = Unit {0}
-IsServed (Create path) = Unit {0}
-IsServed (Write path offset bytes) = Unit {0}
-IsServed (Read path offset count) = Unit {0}
-IsServed (Resize path size) = Unit {0}
-IsServed (Stat path) = Unit {0}
-IsServed (ListNames path after) = Unit {0}
-IsServed (Rename from to) = Unit {0}
-IsServed (Remove path) = Unit {0}
-IsServed Sync = Unit {0}
-IsServed Root = Unit {0}
-IsServed Reclaim = Unit {0}
-IsServed (Probe at) = ⊥
+TableReplies key t (Probe at) reply = IsProbed t (slice_get (table_walk key t) at) reply

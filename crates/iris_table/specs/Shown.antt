@@ -1,13 +1,14 @@
 -- What each name stands for in a table: entries by the treaps of their directories, parts and blocks by their files.
-use Rattle.std.specs.Prelude.{ℕ, ◌+◌, ◌-◌, ◌*◌, ◌==◌, ◌&&◌, List, [], ◌∷◌, Option, Some, None, if◌then◌else◌}
+use Rattle.std.specs.Prelude.{ℕ, ◌==◌, ◌&&◌, List, [], ◌∷◌, Option, Some, None, if◌then◌else◌}
 use Rattle.iris_name.specs.Hmac.{priority}
 use Rattle.iris_name.specs.declared.name.Name.{Name}
 use Rattle.iris_name.specs.declared.name.Name.TheVariants.{Entry, Part, Block}
 use Rattle.iris_node.specs.Rules.{most_level}
 use Rattle.iris_node.specs.Unfolded.{Unfolded, Absent, Folder, Leaf, Even, Split, Stored}
-use Rattle.iris_shape.specs.Folds.{Fold, One, Two, folded}
+use Rattle.iris_shape.specs.Folds.{folded}
 use Rattle.iris_shape.specs.Treap.{Treap, Empty, Over, treap}
 use Rattle.iris_shape.specs.Order.{beside}
+use Rattle.iris_shape.specs.Sides.{side}
 use Rattle.iris_shape.specs.Local.{either}
 use Rattle.iris_table.specs.Rows.{File, Rows, End, Row, Table}
 
@@ -20,11 +21,6 @@ pub record Own : Type 0 where
 
 abbrev pub own_id : Own → ℕ
 own_id own = own.id
-
--- the side of the part of a level and an index, by the fold of its places
-abbrev pub side : ℕ → ℕ → ℕ → Fold → Unfolded
-side file level index (One version) = Even version
-side file level index (Two low high) = Split file level index (side file (level - 1) (2 * index) low) (side file (level - 1) (2 * index + 1) high)
 
 -- the side of all versions of a file
 abbrev pub versions : ℕ → File → Unfolded

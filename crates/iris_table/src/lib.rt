@@ -1,6 +1,7 @@
 //! The table of rows that lies beneath the plain file system, as a slow program, and the law that joins the two.
 #![tactic(auto)]
 
+pub mod challenge;
 pub mod digits;
 pub mod file;
 pub mod item;

@@ -1,17 +1,19 @@
 //! One request at a time over the rows.
 
-ghost use Rattle.std.specs.Prelude.{◌≡◌, ◌+◌, length, is_none, if◌then◌else◌, OnOk, OnErr, IfOk};
+ghost use Rattle.std.specs.Prelude.{◌≡◌, ◌+◌, ℕ, List, length, is_none, if◌then◌else◌, slice_get, OnOk, OnErr, IfOk};
 ghost use Rattle.iris_name.specs.Paths.{names_of};
 ghost use Rattle.iris_name.specs.declared.request.Request.TheVariants.{Mkdir, Write, Read, Resize, Stat, List as ListNames, Rename, Remove, Reclaim};
 ghost use Rattle.iris_name.specs.declared.request.Reply.TheVariants.{Reclaimed};
 ghost use Rattle.iris_plain.specs.Checks.{is_full, no_place};
 ghost use Rattle.iris_table.specs.Rows.{empty_table};
 ghost use Rattle.iris_table.specs.Changes.{made, by_names, seen_in, stepped, table_verdict};
+ghost use Rattle.iris_table.specs.Challenges.{table_walk, IsProbed};
 ghost use Rattle.iris_table.specs.Items.{kept_file};
 ghost use Rattle.iris_table.specs.Served.{State, table_in, AreForests, IsWhole};
 ghost use Rattle.iris_table.specs.Records.{AreLive, root_hash};
 ghost use Rattle.iris_table.specs.Replies.{Told, is_left};
 
+use crate::challenge::probe;
 use crate::file::FileRow;
 use crate::item::Item;
 use crate::moving::{empty, insert, reclaim, remove, rename, resize_at, write_at};
@@ -80,6 +82,14 @@ impl State {
             self.trash.as_slice(),
             self.next,
         )
+    }
+
+    /// The block at a place of the walk over all blocks.
+    pub fn probe(&self, at: u64) -> Reply
+        requires { IsWhole self.now }
+        ensures { (order : List ℕ) → IsProbed (table_in self.now) (slice_get (table_walk order (table_in self.now)) at) result }
+    {
+        probe(self.visible.as_slice(), self.trash.as_slice(), at)
     }
 
     // What resolving a path meets.

@@ -5,7 +5,7 @@ ghost use Rattle.iris_table.specs.Rows.{empty_table};
 ghost use Rattle.iris_table.specs.Changes.{stepped};
 ghost use Rattle.iris_table.specs.Served.{table_of, table_in, AreForests, IsWhole};
 ghost use Rattle.iris_table.specs.Records.{AreLive, root_hash};
-ghost use Rattle.iris_table.specs.Replies.{TableReplies, IsServed};
+ghost use Rattle.iris_table.specs.Replies.{TableReplies};
 
 use crate::file::FileRow;
 use crate::state::State;
@@ -31,14 +31,13 @@ impl Model for Table {
     ghost invariant = { λ t. IsWhole t.state };
 }
 
-// The reply to a request that is served over rows, and the next rows.
+// The reply to a request over rows, and the next rows.
 fn serve(
     alloc: Global,
     keys: &Keys,
     state: &mut State,
     request: &Request,
 ) -> Result<Reply, NoMemory>
-    requires served { IsServed request.now }
     requires whole { IsWhole state.old }
     ensures reply { IfOk result (λ reply. TableReplies keys.now.order (table_in state.old) request.now reply) }
     ensures step { OnOk result (table_in state.new ≡ stepped (table_in state.old) request.now) }
@@ -66,7 +65,7 @@ fn serve(
         Request::Sync => Ok(Reply::Synced),
         Request::Reclaim => state.reclaim(alloc),
         Request::Root => Ok(Reply::Digest(state.root_of(alloc, keys)?)),
-        Request::Probe { .. } => unreachable!(),
+        Request::Probe { at } => Ok(state.probe(*at)),
     }
 }
 
@@ -84,7 +83,6 @@ impl Table {
 
     /// One request: the reply by its checks, and the next table. A plain error changes nothing.
     pub fn step(&mut self, alloc: Global, request: &Request) -> Result<Reply, NoMemory>
-        requires { IsServed request.now }
         ensures reply { IfOk result (λ reply. TableReplies self.old.keys.order (table_of self.old) request.now reply) }
         ensures step { OnOk result (table_of self.new ≡ stepped (table_of self.old) request.now) }
         ensures keys { self.new.keys ≡ self.old.keys }

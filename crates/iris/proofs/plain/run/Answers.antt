@@ -1,10 +1,9 @@
 use Rattle.std.proofs.Common.{◌∙◌, ap, subst, sym, take}
 use Rattle.std.proofs.lemmas.Result.{err_from_is_err_and}
 use Rattle.iris_name.specs.Told.{extended}
-use Rattle.iris_script.specs.Script.{AllAsk, script_lines}
 use Rattle.iris_table.specs.Rows.{empty_table}
 use Rattle.iris.specs.Plain.{AreRight, printed_to}
-use Rattle.iris.proofs.Plains.{all_served, script_end, served}
+use Rattle.iris.proofs.Plains.{script_end, served}
 use Rattle.iris.proofs.plain.run.Goals as goal
 
 pub returns-in_err-script : goal.returns-in_err-script
@@ -13,9 +12,6 @@ returns-in_err-script g c =
     rw (p.1, p.2)
     (script_end _ _ _ _ _ (g.W.Sink.written c.args.out.now) _ _ c.in-Some.master c.as_slice.result.now _ c.in-Some.ensures.some
     (rw c.as_slice.ensures.value c.in_ok-bytes.ensures.whole) (rw c.as_slice.ensures.value c.in_ok-bytes.ensures.len) c.in_err-script.ensures.err)
-
-pub serve_calls-requires : goal.serve_calls-requires
-serve_calls-requires g c = rw c.as_slice-2.ensures (all_served (script_lines c.as_slice.result.now) _ c.in_ok-script.ensures.ok)
 
 pub returns-in-Ok : goal.returns-in-Ok
 returns-in-Ok g c = (

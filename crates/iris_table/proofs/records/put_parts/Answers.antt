@@ -1,7 +1,8 @@
 use Rattle.std.proofs.Common.{◌≡◌, ap, ◌∙◌, subst, length}
 use Rattle.std.specs.Prelude.{IfOk, OnOk, List, ℕ, slice_index}
 use Rattle.iris_node.specs.Unfolded.{side_to, node_of}
-use Rattle.iris_table.specs.Shown.{side, in_parts}
+use Rattle.iris_shape.specs.Sides.{side}
+use Rattle.iris_table.specs.Shown.{in_parts}
 use Rattle.iris_table.specs.Pieces.{Adds}
 use Rattle.iris_table.proofs.Blocking.{fold_is, fold_halved}
 use Rattle.iris_table.proofs.records.put_parts.Goals as goal
