@@ -25,14 +25,14 @@ use Rattle.iris_cache.specs.declared.held.Held.{Held}
 use Rattle.iris_cache.specs.declared.draft.Change.{Change}
 use Rattle.iris_cache.specs.Rehash.{low_part, high_part, whole_part}
 use Rattle.iris_cache.specs.Resident.{Resident, held, IsSound}
-use Rattle.iris_cache.specs.Drafted.{Drafted, drafted, seen, known, known_by, there_by, IsDraft}
-use Rattle.iris_node.specs.Trees.{Shown, IsParent}
-use Rattle.iris_cache.specs.Pictures.{Pictures, IsSettled, IsLike, Holds, SideHolds, BodyHolds, IsHashOf}
+use Rattle.iris_cache.specs.Drafted.{Drafted, drafted, seen, known_by, there_by, IsDraft}
+use Rattle.iris_node.specs.Trees.{Shown}
+use Rattle.iris_cache.specs.Pictures.{Pictures, IsSettled, IsLike, Holds, SideHolds, BodyHolds}
 use Rattle.iris_version_tree.specs.Versions.{HasVersions, HadVersions, IsFileOf, places}
 use Rattle.iris_version_tree.specs.Sides.{part_seen, side_below, side_of_body, toward, over_name, held_side}
 use Rattle.iris_version_tree.specs.Reached.{IsTwo, IsSideOf, IsOver}
 use Rattle.iris_version_tree.proofs.Levels.{only_top, fits_up}
-use Rattle.iris_version_tree.proofs.Tables.{LikePart, LikeTop, part_like, never_entry, like_top, part_parent, two_above}
+use Rattle.iris_version_tree.proofs.Tables.{LikePart, part_like, never_entry, like_top, part_parent}
 
 -- ---- a node stands under its own name
 

@@ -1,5 +1,5 @@
 -- One part, when its halves are set.
-use Rattle.std.proofs.Common.{◌≡◌, ◌≢◌, ◌==◌, ◌⊎◌, ◌+◌, ◌-◌, ◌*◌, ◌<◌, ◌≤◌, ◌^◌, inl, inr, ℕ, suc, Bool, true, false, cond, Option, Some, None, refl, ap, sym, ◌∙◌, subst, arith}
+use Rattle.std.proofs.Common.{◌≡◌, ◌==◌, ◌⊎◌, ◌+◌, ◌-◌, ◌*◌, inl, inr, ℕ, suc, Bool, true, false, cond, Option, Some, None, refl, ap, sym, ◌∙◌, subst, arith}
 use Rattle.std.specs.Prelude.{IsSome}
 use Rattle.std.proofs.lemmas.Bool.{eqb-true, eq-eqb}
 use Rattle.iris_name.specs.Names.{same_name}
@@ -23,12 +23,12 @@ use Rattle.iris_cache.specs.declared.held.Held.{Held}
 use Rattle.iris_cache.specs.declared.draft.Change.{Change}
 use Rattle.iris_cache.specs.Rehash.{low_part, high_part}
 use Rattle.iris_cache.specs.Resident.{Resident, held}
-use Rattle.iris_cache.specs.Drafted.{Drafted, drafted, known, known_by, there_by, set_to, taken_away}
+use Rattle.iris_cache.specs.Drafted.{Drafted, drafted, known_by, set_to, taken_away}
 use Rattle.iris_node.specs.Trees.{Shown}
 use Rattle.iris_cache.specs.Pictures.{IsSettled, Holds, SideHolds, IsHashOf}
 use Rattle.iris_version_tree.specs.Sides.{common_of, IsBelow}
 use Rattle.iris_version_tree.specs.Reached.{IsTwo, IsSideOf, IsOver}
-use Rattle.iris_version_tree.specs.Ranges.{AreHalves, IsPartWith, IsNodeWith, AtPart, SideAt, IsKnownBelow}
+use Rattle.iris_version_tree.specs.Ranges.{IsNodeWith, AtPart, SideAt, IsKnownBelow}
 use Rattle.iris_version_tree.proofs.Tables.{same_one}
 
 -- ---- folds of halves

@@ -1,44 +1,35 @@
 -- A draft in which the versions of a file were set, name by name.
-use Rattle.std.proofs.Common.{◌≡◌, ◌⊎◌, ◌==◌, ◌+◌, ◌-◌, ◌*◌, ◌<◌, ◌≤◌, ◌^◌, inl, inr, ℕ, zero, suc, Bool, true, false, cond, Option, Some, None, refl, ap, sym, ◌∙◌, subst, arith}
-use Rattle.std.specs.Prelude.{IsSome, IsSomeAnd}
+use Rattle.std.proofs.Common.{◌≡◌, ◌+◌, ◌-◌, ◌*◌, ◌≤◌, ◌^◌, inl, inr, ℕ, Option, Some, None, refl, ap, sym, ◌∙◌, subst}
 use Rattle.std.specs.Option.{option_map}
-use Rattle.std.proofs.lemmas.Bool.{eqb-true, eqb-false, cases_lt}
+use Rattle.std.proofs.lemmas.Bool.{cases_lt}
 use Rattle.iris_name.specs.declared.name.FileId.{FileId}
 use Rattle.iris_name.specs.declared.name.Hash32.{Hash32}
 use Rattle.iris_name.specs.declared.name.Name.{Name}
 use Rattle.iris_name.specs.declared.name.Name.TheVariants as name
 use Rattle.iris_name.specs.declared.note.Expect.{Expect}
-use Rattle.iris_name.specs.declared.note.Expect.TheVariants.{Hash}
 use Rattle.iris_node.specs.declared.node.Side.{Side}
-use Rattle.iris_node.specs.declared.node.Side.TheVariants.{Fold as Same, Below}
+use Rattle.iris_node.specs.declared.node.Side.TheVariants.{Below}
 use Rattle.iris_node.specs.declared.node.Node.{Node}
-use Rattle.iris_node.specs.declared.node.Node.TheVariants as node
-use Rattle.iris_node.specs.Fields.{EntryFields}
 use Rattle.iris_node.specs.Unfolded.{Unfolded, Absent, Folder, Leaf, Even, Split, Stored, id_of}
-use Rattle.iris_node.specs.Local.{local, local_of}
 use Rattle.iris_shape.specs.Folds.{Fold, One, Two, folded}
 use Rattle.iris_shape.specs.Sides.{side, part_of}
-use Rattle.iris_shape.proofs.FoldProofs.{folded-zero}
-use Rattle.iris_cache.specs.declared.held.Held.{Held}
 use Rattle.iris_cache.specs.declared.held.Short.{Short}
 use Rattle.iris_cache.specs.declared.held.Short.TheVariants.{Need, NoMemory}
-use Rattle.iris_cache.specs.declared.draft.Change.{Change}
 use Rattle.iris_cache.specs.Resident.{Resident, held}
-use Rattle.iris_cache.specs.Drafted.{Drafted, drafted, seen, known, known_by, there_by}
-use Rattle.iris_node.specs.Trees.{Shown, node_name, IsTree, IsParent, IsAbove, IsNodeName}
-use Rattle.iris_cache.specs.Pictures.{Pictures, IsSettled, parent_after, parent_by, IsLike, Drafts, Holds, SideHolds, IsHashOf}
-use Rattle.iris_cache.proofs.Lacking.{not_known, parent_named, unknown}
-use Rattle.iris_version_tree.specs.Versions.{Versioned, HasVersions, HadVersions, Reversions, IsOther, IsFileOf, whole, reversioned, places}
-use Rattle.iris_version_tree.specs.Needs.{Lacks, IsShort, IsPartOver, IsFileNode, IsFileBody}
+use Rattle.iris_cache.specs.Drafted.{Drafted, drafted, seen}
+use Rattle.iris_node.specs.Trees.{Shown, node_name, IsTree, IsParent, IsAbove}
+use Rattle.iris_cache.specs.Pictures.{IsSettled, IsLike, IsHashOf}
+use Rattle.iris_cache.proofs.Lacking.{parent_named, unknown}
+use Rattle.iris_version_tree.specs.Versions.{Versioned, HasVersions, Reversions, IsOther, IsFileOf, whole, reversioned, places}
+use Rattle.iris_version_tree.specs.Needs.{Lacks, IsShort}
 use Rattle.iris_version_tree.specs.Sides.{side_seen, over_name}
-use Rattle.iris_version_tree.specs.Reached.{IsTwo, IsSideOf, IsOver, IsLinkedSide, Reached}
-use Rattle.iris_version_tree.specs.Ranges.{Within, IsWithin, AtPart, Under, SideAt, Missing, IsMissing, IsNodeWith}
-use Rattle.iris_version_tree.proofs.Levels.{pow-pos, fits_up}
-use Rattle.iris_version_tree.proofs.Tables.{part_parent, two_above}
-use Rattle.iris_version_tree.proofs.Walks.{reached_top, true_need, is_there}
+use Rattle.iris_version_tree.specs.Reached.{IsTwo, IsLinkedSide, Reached}
+use Rattle.iris_version_tree.specs.Ranges.{Within, AtPart, Under, SideAt, IsMissing}
+use Rattle.iris_version_tree.proofs.Tables.{part_parent}
+use Rattle.iris_version_tree.proofs.Walks.{reached_top, true_need}
 use Rattle.iris_version_tree.proofs.Hashes.{over_is}
-use Rattle.iris_version_tree.proofs.Likes.{two_node, node_with, like_with}
-use Rattle.iris_version_tree.proofs.Reversions.{local_kept, name_kept, above_forth, above_back, IsTopSide, unchanged}
+use Rattle.iris_version_tree.proofs.Likes.{two_node, node_with}
+use Rattle.iris_version_tree.proofs.Reversions.{above_forth, above_back, IsTopSide}
 
 pub within_fits : (k j : ℕ) → Within 16 0 k j → (j + 1) * 2 ^ k ≤ places
 within_fits k j w = let h : (j + 1) * 2 ^ k ≤ 65536 = w.to in h

@@ -1,23 +1,19 @@
 -- A table in which the versions of one file are others.
 use Rattle.std.proofs.Common.{◌≡◌, ◌⊎◌, ◌==◌, ◌+◌, inl, inr, ℕ, Bool, true, false, cond, Option, Some, None, refl, ap, sym, ◌∙◌, subst}
-use Rattle.std.specs.Prelude.{IsSome, IsSomeAnd}
-use Rattle.std.specs.Option.{option_map}
-use Rattle.std.proofs.lemmas.Bool.{eqb-true, eqb-false}
+use Rattle.std.specs.Prelude.{IsSome}
+use Rattle.std.proofs.lemmas.Bool.{eqb-true}
 use Rattle.iris_name.specs.declared.name.FileId.{FileId}
 use Rattle.iris_name.specs.declared.name.Name.{Name}
 use Rattle.iris_name.specs.declared.name.Name.TheVariants as name
 use Rattle.iris_node.specs.declared.node.Node.{Node}
 use Rattle.iris_node.specs.Unfolded.{Unfolded, Absent, Folder, Leaf, Even, Split, Stored, id_of, blocks}
 use Rattle.iris_node.specs.Local.{local, led}
-use Rattle.iris_shape.specs.Folds.{Fold, One, Two}
-use Rattle.iris_shape.specs.Sides.{side, part_of}
 use Rattle.iris_cache.specs.Resident.{Resident}
 use Rattle.iris_cache.specs.Drafted.{Drafted, seen, known, there_by}
 use Rattle.iris_node.specs.Trees.{Shown, node_name, IsTree, IsParent, IsAbove, IsNodeName}
 use Rattle.iris_cache.specs.Pictures.{Drafts}
-use Rattle.iris_cache.proofs.Lacking.{not_known, parent_named}
+use Rattle.iris_cache.proofs.Lacking.{not_known}
 use Rattle.iris_version_tree.specs.Versions.{reversioned}
-use Rattle.iris_version_tree.proofs.Walks.{is_there}
 
 module _ (f : ℕ) (s : Unfolded) where
   blocks_kept : (u : Unfolded) → blocks (reversioned f s u) ≡ blocks u

@@ -1,42 +1,32 @@
 -- One level of a change of versions.
-use Rattle.std.proofs.Common.{◌≡◌, ◌⊎◌, ◌+◌, ◌-◌, ◌*◌, ◌<◌, ◌≤◌, ◌^◌, inl, inr, ℕ, zero, suc, Bool, true, false, Option, Some, None, refl, ap, sym, ◌∙◌, subst, arith}
+use Rattle.std.proofs.Common.{◌≡◌, ◌⊎◌, ◌+◌, ◌*◌, ◌<◌, inl, inr, ℕ, suc, true, false, Option, Some, None, refl, sym, ◌∙◌, subst, arith}
 use Rattle.std.specs.Prelude.{IsSome}
-use Rattle.std.proofs.lemmas.Bool.{cases_lt}
-use Rattle.iris_name.specs.Names.{same_name}
 use Rattle.iris_name.specs.declared.name.FileId.{FileId}
 use Rattle.iris_name.specs.declared.name.Hash32.{Hash32}
-use Rattle.iris_name.specs.declared.name.Name.{Name}
 use Rattle.iris_name.specs.declared.name.Name.TheVariants as name
-use Rattle.iris_name.specs.declared.note.Expect.{Expect}
-use Rattle.iris_name.specs.declared.note.Expect.TheVariants.{Hash}
 use Rattle.iris_node.specs.declared.node.Side.{Side}
 use Rattle.iris_node.specs.declared.node.Side.TheVariants.{Fold as Same, Below}
 use Rattle.iris_node.specs.declared.node.Node.{Node}
 use Rattle.iris_node.specs.declared.node.Node.TheVariants as node
 use Rattle.iris_node.specs.Fields.{PartFields}
-use Rattle.iris_shape.specs.Folds.{Fold, One, Two, join, folded}
-use Rattle.iris_shape.specs.FoldLaws.{IsUnder, changed}
+use Rattle.iris_shape.specs.Folds.{Fold, One, Two, folded}
+use Rattle.iris_shape.specs.FoldLaws.{IsUnder}
 use Rattle.iris_shape.proofs.FoldProofs.{folded_same, folded_even, folded_at, folded-suc, join_one}
 use Rattle.iris_cache.specs.declared.held.Held.{Held}
-use Rattle.iris_cache.specs.declared.held.Short.{Short}
-use Rattle.iris_cache.specs.declared.held.Short.TheVariants.{Need, NoMemory}
 use Rattle.iris_cache.specs.declared.draft.Change.{Change}
 use Rattle.iris_cache.specs.Rehash.{low_part, high_part}
 use Rattle.iris_cache.specs.Resident.{Resident, held}
 use Rattle.iris_cache.specs.Drafted.{Drafted, drafted, seen, known, known_by, there_by}
 use Rattle.iris_node.specs.Trees.{Shown}
-use Rattle.iris_cache.specs.Pictures.{Pictures, IsSettled, Holds, SideHolds, IsHashOf}
-use Rattle.iris_version_tree.specs.Versions.{HadVersions, places}
-use Rattle.iris_version_tree.specs.Needs.{Covers}
-use Rattle.iris_version_tree.specs.Sides.{part_seen, AreHalvesOf, IsNeedOf}
-use Rattle.iris_version_tree.specs.Reached.{IsTwo, IsSideOf, IsOver, IsLinked, IsLinkedSide, Reached}
-use Rattle.iris_version_tree.specs.Ranges.{Within, IsWithin, Frame, AreHalves, IsPartWith, IsNodeWith, AtPart, Under, SideAt, IsKnownBelow, Missing, IsMissing, Joins, Turns}
-use Rattle.iris_version_tree.proofs.Levels.{pow-pos}
+use Rattle.iris_cache.specs.Pictures.{SideHolds}
+use Rattle.iris_version_tree.specs.Sides.{part_seen, AreHalvesOf}
+use Rattle.iris_version_tree.specs.Reached.{IsTwo, IsSideOf, Reached}
+use Rattle.iris_version_tree.specs.Ranges.{AreHalves, IsPartWith, IsNodeWith, AtPart, Under, SideAt, IsKnownBelow}
 use Rattle.iris_version_tree.proofs.Tables.{LikePart, same_one, halves_of_two}
 use Rattle.iris_version_tree.proofs.Walks.{low_linked, high_linked}
 use Rattle.iris_version_tree.proofs.Hashes.{low_name, high_name}
 use Rattle.iris_version_tree.proofs.Joins.{one_side, at_even, even_side}
-use Rattle.iris_version_tree.proofs.Spans.{sub, not_same, self, split, apart, up_low, up_high, down, changed-out, changed-in}
+use Rattle.iris_version_tree.proofs.Spans.{sub}
 
 -- ---- where nothing is written
 

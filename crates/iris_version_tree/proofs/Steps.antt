@@ -1,29 +1,22 @@
 -- A part set after its halves.
-use Rattle.std.proofs.Common.{◌≡◌, ◌⊎◌, ◌+◌, ◌-◌, ◌*◌, ◌<◌, ◌≤◌, ◌^◌, inl, inr, ℕ, suc, Option, Some, None, refl, ap, sym, ◌∙◌, subst, false, arith}
+use Rattle.std.proofs.Common.{◌≡◌, ◌+◌, ◌*◌, ◌<◌, ◌≤◌, ◌^◌, inl, inr, ℕ, suc, None, refl, ap, sym, ◌∙◌, subst, false, arith}
 use Rattle.std.proofs.lemmas.Bool.{cases_lt}
 use Rattle.iris_name.specs.Names.{same_name}
 use Rattle.iris_name.specs.declared.name.FileId.{FileId}
-use Rattle.iris_name.specs.declared.name.Hash32.{Hash32}
 use Rattle.iris_name.specs.declared.name.Name.{Name}
 use Rattle.iris_name.specs.declared.name.Name.TheVariants as name
-use Rattle.iris_name.specs.declared.note.Expect.{Expect}
-use Rattle.iris_name.specs.declared.note.Expect.TheVariants.{Hash}
 use Rattle.iris_node.specs.declared.node.Side.{Side}
 use Rattle.iris_node.specs.declared.node.Side.TheVariants.{Fold as Same, Below}
-use Rattle.iris_node.specs.declared.node.Node.{Node}
 use Rattle.iris_shape.specs.Folds.{folded}
 use Rattle.iris_cache.specs.declared.held.Short.{Short}
 use Rattle.iris_cache.specs.declared.held.Short.TheVariants.{Need, NoMemory}
-use Rattle.iris_cache.specs.declared.draft.Change.{Change}
 use Rattle.iris_cache.specs.Resident.{Resident, held}
 use Rattle.iris_cache.specs.Drafted.{Drafted, drafted, seen, known, known_by, there_by}
 use Rattle.iris_node.specs.Trees.{Shown}
-use Rattle.iris_cache.specs.Pictures.{Pictures}
-use Rattle.iris_version_tree.specs.Versions.{HadVersions}
 use Rattle.iris_version_tree.specs.Needs.{Covers}
 use Rattle.iris_version_tree.specs.Sides.{part_seen, AreHalvesOf, IsNeedOf}
-use Rattle.iris_version_tree.specs.Reached.{IsOver, IsLinked, IsLinkedSide, Reached}
-use Rattle.iris_version_tree.specs.Ranges.{Within, IsWithin, Frame, AtPart, Under, SideAt, IsKnownBelow, Missing, IsMissing, Joins, Turns}
+use Rattle.iris_version_tree.specs.Reached.{IsOver, IsLinkedSide}
+use Rattle.iris_version_tree.specs.Ranges.{Within, IsWithin, Frame, AtPart, Under, IsKnownBelow, Missing, IsMissing, Joins, Turns}
 use Rattle.iris_version_tree.proofs.Levels.{pow-pos}
 use Rattle.iris_version_tree.proofs.Spans.{not_same, self, split, apart, up_low, up_high, down}
 use Rattle.iris_version_tree.proofs.Sets.{half_sides, half_reached}

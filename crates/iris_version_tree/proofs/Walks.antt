@@ -1,7 +1,6 @@
 -- Ways down to a place.
-use Rattle.std.proofs.Common.{◌≡◌, ◌⊎◌, ◌==◌, ◌+◌, ◌-◌, ◌*◌, ◌/◌, ◌%◌, ◌<◌, ◌≤◌, ◌^◌, inl, inr, ℕ, suc, Bool, true, false, cond, Option, Some, None, refl, ap, sym, ◌∙◌, subst, arith, add-one}
+use Rattle.std.proofs.Common.{◌≡◌, ◌==◌, ◌+◌, ◌-◌, ◌*◌, ◌/◌, ◌%◌, ◌<◌, ◌≤◌, ◌^◌, inl, inr, ℕ, suc, Bool, true, false, cond, Option, Some, None, refl, ap, sym, ◌∙◌, subst, arith}
 use Rattle.std.specs.Prelude.{IsSome}
-use Rattle.std.specs.Option.{option_map}
 use Rattle.std.proofs.lemmas.Bool.{eqb-true, eqb-false}
 use Rattle.iris_name.specs.declared.name.FileId.{FileId}
 use Rattle.iris_name.specs.declared.name.Hash32.{Hash32}
@@ -19,23 +18,21 @@ use Rattle.iris_node.specs.declared.node.Body.TheVariants.{Dir, File}
 use Rattle.iris_node.specs.declared.node.Node.{Node}
 use Rattle.iris_node.specs.declared.node.Node.TheVariants as node
 use Rattle.iris_node.specs.Fields.{EntryFields, PartFields}
-use Rattle.iris_node.specs.Unfolded.{Unfolded, Absent, Folder, Leaf, Even, Split, Stored, id_of, hash, node_of}
+use Rattle.iris_node.specs.Unfolded.{Unfolded, id_of}
 use Rattle.iris_shape.specs.Folds.{Fold, One, Two, folded}
-use Rattle.iris_shape.specs.Sides.{side, part_of}
-use Rattle.iris_cache.specs.declared.held.Held.{Held}
-use Rattle.iris_cache.specs.declared.draft.Change.{Change}
+use Rattle.iris_shape.specs.Sides.{part_of}
 use Rattle.iris_cache.specs.Rehash.{low_part, high_part, whole_part}
-use Rattle.iris_cache.specs.Resident.{Resident, held}
-use Rattle.iris_cache.specs.Drafted.{Drafted, drafted, seen, known, known_by, there_by}
-use Rattle.iris_node.specs.Trees.{Shown, node_name, IsTree, IsParent, IsAbove, IsNodeName}
-use Rattle.iris_cache.specs.Pictures.{IsSettled, IsLike, Drafts, Holds, LinkHolds, SideHolds, BodyHolds, IsHashOf}
+use Rattle.iris_cache.specs.Resident.{Resident}
+use Rattle.iris_cache.specs.Drafted.{Drafted, seen, known, there_by}
+use Rattle.iris_node.specs.Trees.{Shown}
+use Rattle.iris_cache.specs.Pictures.{IsSettled, IsLike, Holds, SideHolds, BodyHolds, IsHashOf}
 use Rattle.iris_cache.proofs.Lacking.{parent_resident, unknown}
 use Rattle.iris_cache.specs.Needs.{IsTrueNeed, IsExpected}
 use Rattle.iris_version_tree.specs.Versions.{Versioned, HasVersions, places}
 use Rattle.iris_version_tree.specs.Needs.{Lacks, IsLack, IsFirstLack, AreHoles}
 use Rattle.iris_version_tree.specs.Sides.{part_seen, side_seen, side_of_body, toward}
-use Rattle.iris_version_tree.specs.Reached.{IsTwo, IsSideOf, IsOver, IsLinked, IsLinkedSide, Reached}
-use Rattle.iris_version_tree.proofs.Levels.{over, div_step, fits_low, fits_high}
+use Rattle.iris_version_tree.specs.Reached.{IsTwo, IsSideOf, IsLinkedSide, Reached}
+use Rattle.iris_version_tree.proofs.Levels.{over, div_step}
 use Rattle.iris_version_tree.proofs.Tables.{LikePart, LikeTop, part_like, never_entry, like_top, below_two, part_parent}
 
 pub low_linked : (d : Drafted) (c : Resident) (file : FileId) (v : ℕ → ℕ) (k j : ℕ) (p : PartFields) (s : Side) → LikePart file v k j p → k < 16 → seen d c (name.Part file (suc k) j) ≡ Some (node.Part p) → p.low ≡ s → IsLinkedSide d c file k (2 * j) s

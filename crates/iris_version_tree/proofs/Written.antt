@@ -10,7 +10,6 @@ use Rattle.iris_name.specs.declared.name.Hash32.{Hash32}
 use Rattle.iris_name.specs.declared.name.Name.{Name}
 use Rattle.iris_name.specs.declared.name.Name.TheVariants as name
 use Rattle.iris_node.specs.declared.node.Side.{Side}
-use Rattle.iris_node.specs.declared.node.Side.TheVariants.{Fold as Same, Below}
 use Rattle.iris_node.specs.declared.node.Body.{Body}
 use Rattle.iris_node.specs.declared.node.Body.TheVariants.{Dir, File}
 use Rattle.iris_node.specs.declared.node.Node.{Node}
@@ -26,22 +25,22 @@ use Rattle.iris_cache.specs.declared.draft.Change.{Change}
 use Rattle.iris_cache.specs.Rehash.{whole_part}
 use Rattle.iris_cache.specs.Resident.{Resident, held}
 use Rattle.iris_cache.specs.Drafted.{Drafted, drafted, seen, known, known_by, there_by, set_to}
-use Rattle.iris_node.specs.Trees.{Shown, node_name, IsTree, IsParent, IsAbove, IsNodeName}
+use Rattle.iris_node.specs.Trees.{Shown, node_name, IsTree, IsParent, IsNodeName}
 use Rattle.iris_cache.specs.Pictures.{Pictures, IsSettled, parent_after, parent_by, IsLike, Drafts, Holds, SideHolds, BodyHolds, IsHashOf}
-use Rattle.iris_cache.proofs.Lacking.{not_known, unknown}
-use Rattle.iris_version_tree.specs.Versions.{Versioned, HasVersions, Reversions, IsOther, IsFileOf, whole, reversioned, places}
+use Rattle.iris_cache.proofs.Lacking.{unknown}
+use Rattle.iris_version_tree.specs.Versions.{Versioned, HasVersions, Reversions, IsOther, whole, reversioned, places}
 use Rattle.iris_version_tree.specs.Needs.{IsFileNode, IsFileBody, HasEntryWith}
 use Rattle.iris_version_tree.specs.Sides.{entry_with, body_with, side_seen, side_of_body}
 use Rattle.iris_version_tree.specs.Reached.{IsTwo, IsOver}
-use Rattle.iris_version_tree.specs.Ranges.{Within, IsWithin, Frame, AtPart, Under, SideAt}
-use Rattle.iris_version_tree.proofs.Levels.{pow-pos, fits_up}
+use Rattle.iris_version_tree.specs.Ranges.{Within, IsWithin, Frame, Under, SideAt}
+use Rattle.iris_version_tree.proofs.Levels.{fits_up}
 use Rattle.iris_version_tree.proofs.Tables.{part_parent, two_above, like_top}
 use Rattle.iris_version_tree.proofs.Spans.{not_same}
 use Rattle.iris_version_tree.proofs.Steps.{under_frame}
 use Rattle.iris_version_tree.proofs.Walks.{is_there}
 use Rattle.iris_version_tree.proofs.Joins.{side_true}
 use Rattle.iris_version_tree.proofs.Likes.{two_node, like_with, top_set}
-use Rattle.iris_version_tree.proofs.Reversions.{local_kept, name_kept, unchanged}
+use Rattle.iris_version_tree.proofs.Reversions.{local_kept, unchanged}
 use Rattle.iris_version_tree.proofs.Plans.{none_of, parent_back, parent_forth, other_parent, within_fits}
 
 -- what was written over a draft, where a plan set the versions of a file
@@ -176,7 +175,7 @@ module _ (new made : Shown) (file : FileId) (v w : ℕ → ℕ) (tree : IsTree n
 seen_there : (d : Drafted) (c : Resident) (n : Name) (m : Node) (x : Option (Option Node)) → known d c n ≡ x → there_by x ≡ None → seen d c n ≡ Some m → ⊥
 seen_there d c n m x ke none at = let e : seen d c n ≡ None = ap there_by ke ∙ none in cc
 
-seen_same : (d e : Drafted) (c : Resident) (n : Name) → drafted e n ≡ drafted d n → seen e c n ≡ seen d c n
+pub seen_same : (d e : Drafted) (c : Resident) (n : Name) → drafted e n ≡ drafted d n → seen e c n ≡ seen d c n
 seen_same d e c n h = ap (λ o. there_by (known_by o (held c n))) h
 
 known_same : (d e : Drafted) (c : Resident) (n : Name) → drafted e n ≡ drafted d n → known e c n ≡ known d c n

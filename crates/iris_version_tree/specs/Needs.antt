@@ -1,11 +1,9 @@
 -- What a plan on versions lacks, and what it finds.
-use Rattle.std.specs.Prelude.{◌≡◌, ◌≢◌, ◌+◌, ◌<◌, ◌≤◌, ℕ, Option, Some, None, IsSome}
-use Rattle.std.specs.Option.{option_map}
+use Rattle.std.specs.Prelude.{◌≡◌, ◌≢◌, ◌+◌, ◌<◌, ◌≤◌, ℕ, Option, Some, None}
 use Rattle.iris_name.specs.declared.name.FileId.{FileId}
 use Rattle.iris_name.specs.declared.name.Name.{Name}
 use Rattle.iris_name.specs.declared.name.Name.TheVariants as name
 use Rattle.iris_name.specs.declared.note.Expect.{Expect}
-use Rattle.iris_name.specs.declared.note.Expect.TheVariants.{Hash, Version}
 use Rattle.iris_node.specs.declared.node.Side.{Side}
 use Rattle.iris_node.specs.Fields.{EntryFields}
 use Rattle.iris_version_tree.specs.Sides.{entry_with}
@@ -13,14 +11,13 @@ use Rattle.iris_node.specs.declared.node.Body.{Body}
 use Rattle.iris_node.specs.declared.node.Body.TheVariants.{Dir, File}
 use Rattle.iris_node.specs.declared.node.Node.{Node}
 use Rattle.iris_node.specs.declared.node.Node.TheVariants as node
-use Rattle.iris_node.specs.Unfolded.{Unfolded, hash, node_of}
 use Rattle.iris_shape.specs.FoldLaws.{IsUnder}
 use Rattle.iris_cache.specs.declared.held.Short.{Short}
 use Rattle.iris_cache.specs.declared.held.Short.TheVariants.{Need, NoMemory}
 use Rattle.iris_cache.specs.Needs.{IsTrueNeed}
 use Rattle.iris_cache.specs.Resident.{Resident, held}
 use Rattle.iris_cache.specs.Drafted.{Drafted, drafted, seen}
-use Rattle.iris_node.specs.Trees.{Shown, IsParent}
+use Rattle.iris_node.specs.Trees.{Shown}
 use Rattle.iris_version_tree.specs.Versions.{Versioned, places}
 
 abbrev pub IsFileBody : Body → Type 0

@@ -1,14 +1,11 @@
-use Rattle.std.proofs.Common.{◌≡◌, ◌+◌, ◌-◌, ◌/◌, ◌^◌, ◌%◌, ◌*◌, ◌≤◌, ◌<◌, ℕ, Some, None, suc, sym, ap, ◌∙◌, subst, arith}
+use Rattle.std.proofs.Common.{◌≡◌, ◌+◌, ◌-◌, ◌/◌, ◌^◌, ◌%◌, ◌≤◌, ℕ, suc, sym, ap, ◌∙◌, subst, arith}
 use Rattle.std.proofs.lemmas.Result.{err_from_is_err_and}
 use Rattle.iris_name.specs.declared.name.Name.TheVariants as name
 use Rattle.iris_name.specs.declared.note.Expect.TheVariants.{Hash}
 use Rattle.iris_node.specs.declared.node.Side.{Side}
 use Rattle.iris_node.specs.declared.node.Side.TheVariants.{Below}
 use Rattle.iris_shape.specs.Folds.{One, folded}
-use Rattle.iris_cache.specs.Drafted.{seen}
-use Rattle.iris_version_tree.specs.Versions.{places}
-use Rattle.iris_version_tree.specs.Needs.{IsLack}
-use Rattle.iris_version_tree.specs.Sides.{part_seen, toward}
+use Rattle.iris_version_tree.specs.Sides.{toward}
 use Rattle.iris_version_tree.specs.Reached.{IsSideOf, Reached}
 use Rattle.iris_version_tree.proofs.Levels.{fits_at}
 use Rattle.iris_version_tree.proofs.Tables.{same_one, below_two}

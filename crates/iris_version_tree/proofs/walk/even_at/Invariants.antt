@@ -1,4 +1,4 @@
-use Rattle.std.proofs.Common.{ℕ, ◌≡◌, ◌/◌, ◌^◌, ◌-◌}
+use Rattle.std.proofs.Common.{ℕ, ◌/◌, ◌^◌, ◌-◌}
 use Rattle.iris_node.specs.Trees.{Shown}
 use Rattle.iris_version_tree.specs.Versions.{Versioned}
 use Rattle.iris_version_tree.specs.Reached.{Reached}

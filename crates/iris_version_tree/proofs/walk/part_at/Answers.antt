@@ -1,4 +1,4 @@
-use Rattle.std.proofs.Common.{ap, sym, ◌∙◌}
+use Rattle.std.proofs.Common.{ap, ◌∙◌}
 use Rattle.iris_cache.specs.Drafted.{there_by}
 use Rattle.iris_version_tree.specs.Sides.{part_seen}
 use Rattle.iris_version_tree.proofs.Hashes.{part_own}
