@@ -9,4 +9,5 @@ pub mod Children
 pub mod Applying
 pub mod Lacking
 pub mod Keeping
+pub mod Sparing
 pub mod Settling

@@ -14,6 +14,7 @@ use Rattle.iris_cache.specs.Rehash.{whole_part, with_hash}
 use Rattle.iris_cache.specs.Resident.{Resident, held, map_if, up, IsSound}
 use Rattle.iris_cache.specs.Drafted.{Drafted, drafted, known, seen}
 use Rattle.iris_node.specs.Trees.{Shown, IsTree, IsParent, IsNodeName}
+use Rattle.iris_cache.specs.Hashes.{HoldsAsHeld}
 use Rattle.iris_cache.specs.Pictures.{Holds, IsHashOf, IsLike, Pictures, Drafts}
 
 -- what a link leads to: an entry, or nothing
@@ -82,6 +83,10 @@ ApplyKeeps = (old new : Shown) (d : Drafted) (c e : Resident)
 -- a draft is sparing: of a name that stands for the same, it sets the node that is held
 abbrev pub IsSparing : Shown → Shown → Drafted → Resident → Type 0
 IsSparing old new d c = (n : Name) (change : Change) (node : Node) (h : Held) → drafted d n ≡ Some change → change.node ≡ Some node → held c n ≡ Some h → new n ≡ old n → node ≡ h.node
+
+-- A draft that holds hashes as they are held is sparing.
+abbrev pub Spares : Type 0
+Spares = (old new : Shown) (d : Drafted) (c : Resident) → Drafts old new d c → HoldsAsHeld d c → IsSparing old new d c
 
 -- a node keeps its pins, its marks and what is out
 abbrev pub KeepsMarks : Held → Held → Type 0

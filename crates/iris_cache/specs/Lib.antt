@@ -6,4 +6,5 @@ pub mod Applied
 pub mod Marked
 pub mod Pictures
 pub mod Needs
+pub mod Hashes
 pub mod Laws

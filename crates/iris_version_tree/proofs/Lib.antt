@@ -10,3 +10,4 @@ pub mod Reversions
 pub mod Likes
 pub mod Plans
 pub mod Written
+pub mod AsHeld

@@ -175,7 +175,7 @@ module _ (new made : Shown) (file : FileId) (v w : ℕ → ℕ) (tree : IsTree n
 seen_there : (d : Drafted) (c : Resident) (n : Name) (m : Node) (x : Option (Option Node)) → known d c n ≡ x → there_by x ≡ None → seen d c n ≡ Some m → ⊥
 seen_there d c n m x ke none at = let e : seen d c n ≡ None = ap there_by ke ∙ none in cc
 
-seen_same : (d e : Drafted) (c : Resident) (n : Name) → drafted e n ≡ drafted d n → seen e c n ≡ seen d c n
+pub seen_same : (d e : Drafted) (c : Resident) (n : Name) → drafted e n ≡ drafted d n → seen e c n ≡ seen d c n
 seen_same d e c n h = ap (λ o. there_by (known_by o (held c n))) h
 
 known_same : (d e : Drafted) (c : Resident) (n : Name) → drafted e n ≡ drafted d n → known e c n ≡ known d c n

@@ -21,6 +21,8 @@ use Rattle.iris_cache.specs.Resident.{Resident, held}
 use Rattle.iris_cache.specs.Drafted.{Drafted, drafted, known, known_by, there_by}
 use Rattle.iris_node.specs.Trees.{Shown}
 use Rattle.iris_cache.specs.Pictures.{Pictures, IsSettled, parent_by, Holds, IsHashOf}
+use Rattle.iris_cache.specs.Hashes.{HoldsAsHeld}
+use Rattle.iris_version_tree.specs.Sides.{IsAsHeld, AreAsHeld}
 use Rattle.iris_version_tree.specs.Needs.{Covers}
 use Rattle.iris_version_tree.specs.Versions.{HadVersions}
 use Rattle.iris_version_tree.specs.Reached.{IsTwo, IsSideOf, IsOver, Reached}
@@ -107,3 +109,11 @@ Joins old d e c file v w l i was low high made = (k : ℕ) → l ≡ suc k → P
 -- Of a draft whose parts under one are those of versions v, one was made whose are those of versions w.
 abbrev pub Turns : Shown → Drafted → Drafted → Resident → FileId → (ℕ → ℕ) → (ℕ → ℕ) → ℕ → ℕ → Side → Side → Type 0
 Turns old d e c file v w l i was made = Pictures old c → HadVersions old file → Under old v d c file l i → SideAt old c file v l i was → Under old w e c file l i × SideAt old c file w l i made
+
+-- Where a draft and a side held hashes as they are held, those that were made do.
+abbrev pub KeepsHashes : Drafted → Drafted → Resident → FileId → ℕ → ℕ → Side → Side → Type 0
+KeepsHashes d e c file l i was made = HoldsAsHeld d c → IsAsHeld was c file l i → HoldsAsHeld e c × IsAsHeld made c file l i
+
+-- The same where two halves that hold hashes as they are held were joined.
+abbrev pub JoinsHashes : Drafted → Drafted → Resident → FileId → ℕ → ℕ → Side → Side → Side → Side → Type 0
+JoinsHashes d e c file l i was low high made = AreAsHeld low high c file l i → KeepsHashes d e c file l i was made

@@ -9,3 +9,6 @@ pub mod walk;
 pub use reading::{first_written, version_at};
 pub use setting::plan_set;
 pub use walk::is_file;
+
+#[cfg(test)]
+mod tests;
