@@ -1,1 +1,6 @@
+pub mod Owned
 pub mod Assembly
+pub mod Sizes
+pub mod Recounts
+pub mod Climbs
+pub mod Setting

@@ -4,5 +4,6 @@ pub mod Ways
 pub mod Needs
 pub mod Places
 pub mod Planted
+pub mod Nodes
 pub mod Counts
 pub mod Lags
