@@ -2,5 +2,5 @@ pub mod Owned
 pub mod Assembly
 pub mod Sizes
 pub mod Recounts
-pub mod Climbs
-pub mod Setting
+pub mod CountsUp
+pub mod CountsSet

@@ -1,6 +1,6 @@
 use Rattle.std.proofs.Common.{◌≡◌, ◌<◌, ◌+◌, ◌-◌, ℕ, zero, suc, Some, refl, sym, subst, ap, ◌∙◌, arith, length}
 use Rattle.iris_name.specs.declared.name.Name.TheVariants as name
-use Rattle.iris_dirtree.proofs.Climbs.{Climbing, begins, climbs_on, ends, runs_out}
+use Rattle.iris_dirtree.proofs.CountsUp.{Climbing, begins, climbs_on, ends, runs_out}
 use Rattle.iris_dirtree.proofs.counting.recount.Goals as goal
 
 pub loop-step-init : goal.loop-step-init

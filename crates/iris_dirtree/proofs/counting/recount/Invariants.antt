@@ -1,6 +1,6 @@
 use Rattle.std.proofs.Common.{◌-◌}
 use Rattle.iris_name.specs.declared.name.Name.TheVariants as name
-use Rattle.iris_dirtree.proofs.Climbs.{Climbing}
+use Rattle.iris_dirtree.proofs.CountsUp.{Climbing}
 use Rattle.iris_dirtree.proofs.counting.recount.Given as goal
 
 abbrev pub invariant-loop-step : goal.invariant-loop-step

@@ -3,7 +3,7 @@ use Rattle.indexmap.proofs.MapLemmas.{OnOk-map}
 use Rattle.iris_node.specs.declared.node.Node.TheVariants as node
 use Rattle.iris_dirtree.specs.Counts.{counted_entry}
 use Rattle.iris_dirtree.proofs.Owned.{seen_own}
-use Rattle.iris_dirtree.proofs.Setting.{set_recounts}
+use Rattle.iris_dirtree.proofs.CountsSet.{set_recounts}
 use Rattle.iris_dirtree.proofs.counting.recount_one.Goals as goal
 
 pub returns : goal.returns
