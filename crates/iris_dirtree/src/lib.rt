@@ -2,5 +2,6 @@
 #![tactic(auto)]
 
 pub mod kinds;
+mod nodes;
 
 pub use kinds::is_directory;
