@@ -1,1 +1,3 @@
-
+pub mod Sees
+pub mod Likes
+pub mod Pasts
