@@ -4,3 +4,6 @@ pub mod Sizes
 pub mod Recounts
 pub mod CountsUp
 pub mod CountsSet
+pub mod Sees
+pub mod Likes
+pub mod Pasts
