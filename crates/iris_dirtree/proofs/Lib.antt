@@ -1,9 +1,10 @@
 pub mod Owned
+pub mod Sees
+pub mod Likes
+pub mod Pasts
 pub mod Assembly
 pub mod Sizes
 pub mod Recounts
 pub mod CountsUp
 pub mod CountsSet
-pub mod Sees
-pub mod Likes
-pub mod Pasts
+pub mod Refills
