@@ -8,3 +8,4 @@ pub mod Recounts
 pub mod CountsUp
 pub mod CountsSet
 pub mod Refills
+pub mod Rowed
