@@ -1,5 +1,5 @@
 -- From what a plan makes of a directory's rows to a draft whose counts above the directory lag.
-use Rattle.std.proofs.Common.{◌≡◌, ◌≢◌, ◌⊎◌, ◌==◌, inl, inr, ℕ, Bool, true, false, if◌then◌else◌, List, [], ◌∷◌, Option, Some, None, refl, ap, sym, ◌∙◌, subst, true≢false, is_some, eq-eqb}
+use Rattle.std.proofs.Common.{◌≡◌, ◌≢◌, ◌⊎◌, ◌==◌, inl, inr, ℕ, Bool, true, false, if◌then◌else◌, List, Option, Some, None, refl, ap, sym, ◌∙◌, subst, true≢false, is_some, eq-eqb}
 use Rattle.std.specs.Prelude.{IsSome}
 use Rattle.std.specs.Option.{option_map}
 use Rattle.std.proofs.lemmas.Bool.{eqb-true}
@@ -21,7 +21,6 @@ use Rattle.iris_node.specs.Unfolded.{Unfolded, Absent, Folder, Leaf, Even, Split
 use Rattle.iris_shape.specs.Order.{Rising, Distinct}
 use Rattle.iris_shape.specs.Treap.{Treap, Over, Each, rows, treap, put, without}
 use Rattle.iris_shape.proofs.Treaps.{rows_treap}
-use Rattle.iris_cache.specs.declared.draft.Change.{Change}
 use Rattle.iris_cache.specs.Resident.{Resident, held}
 use Rattle.iris_cache.specs.Drafted.{Drafted, drafted, known, seen, known_by, there_by, taken_away, set_to}
 use Rattle.iris_cache.specs.Pictures.{IsLike, IsSettled, IsHashOf, Holds, parent_after, parent_by}
@@ -31,10 +30,11 @@ use Rattle.iris_dirtree.specs.Lags.{Lags, IsUpFrom}
 use Rattle.iris_dirtree.specs.Planted.{Planted, IsOver, IsRowName, IsWithin, next, far, topped, with_top}
 use Rattle.iris_dirtree.specs.Rows.{Row, HasRows, IsFolderOf, Rearranges, IsElsewhere, has_id, row_id, row_name, row_entry, entries, below_row, refilled, arranged, up}
 use Rattle.iris_dirtree.specs.Ways.{Any, is_named}
-use Rattle.iris_dirtree.proofs.Likes.{Placed, Roof, roof, placed_rows, above_less, above_more, entry_named}
-use Rattle.iris_dirtree.proofs.Recounts.{got, is_there, never_none, one_of, like_said, said_like}
+use Rattle.iris_dirtree.proofs.Likes.{Placed, Roof, roof, placed_rows}
+use Rattle.iris_dirtree.proofs.Recounts.{got, is_there, one_of, like_said, said_like}
 use Rattle.iris_dirtree.proofs.Refills.{lies, untouched, refilled_name, lies_named, lies_up, lies_over, refilled_counts}
 use Rattle.iris_dirtree.proofs.Rowed.{IsIn, any_row, row_any, has_in, in_has, within_rows, Within, rows_within, less_within, more_within, entries_topped, placed_at, likes_at, stays_at, Stands, stands, over_at, Hung, hung_at, above_row, above_content}
+use Rattle.iris_dirtree.proofs.Moved.{each_in, distinct_same, in_put, put_in, put_here, in_without, without_in, named_self, named_same}
 use Rattle.iris_dirtree.proofs.Sizes.{never_over, none_over, over_through}
 
 -- From a list of rows to another, where a row that comes was in hand and one that goes gets into hand.
@@ -48,11 +48,33 @@ pub record Moves (before after : List Row) (from to : Option Row) : Type 0 where
 
 -- a row is put in
 pub moves_in : (p : Row → Bool) (x : Row) (rows : List Row) → Distinct row_id (put p x rows) → Moves rows (put p x rows) (Some x) None
-moves_in p x rows distinct = ?
+moves_in p x rows distinct = record {
+  same = λ a b h k e. distinct_same (put p x rows) a b distinct (put_in p x rows a h) k e;
+  comes = λ y h none. elim (in_put p x rows y h) [ inl e ↦ ap Some e | inr k ↦ absurd (true≢false (sym (has_in rows y k) ∙ none)) ];
+  came = λ y e. subst (λ z. IsIn z (put p x rows)) (one_of x y e) (put_here p x rows);
+  goes = λ y h none. absurd (true≢false (sym (has_in (put p x rows) y (put_in p x rows y h)) ∙ none));
+  went = λ y e. absurd (true≢false (sym (ap is_some e)));
+}
 
 -- a row is taken out
 pub moves_out : (x : Row) (rows : List Row) → Rising row_name rows → Distinct row_id rows → Any (λ r. r ≡ x) rows → Moves rows (without (is_named x.name) rows) None (Some x)
-moves_out x rows rising distinct in_rows = ?
+moves_out x rows rising distinct in_rows = record {
+  same = λ a b h k e. distinct_same rows a b distinct h (in_without (is_named x.name) rows b k).0 e;
+  comes = λ y h none. absurd (true≢false (sym (has_in rows y (in_without (is_named x.name) rows y h).0) ∙ none));
+  came = λ y e. absurd (true≢false (sym (ap is_some e)));
+  goes = λ y h none. ap Some (named_same rows x y rising in_rows h (named y h none (is_named x.name y) refl));
+  went = λ y e. (let f = one_of x y e in (subst (λ z. IsIn z rows) f in_rows, ap (λ z. has_id z.id (without (is_named x.name) rows)) (sym f) ∙ away (has_id x.id (without (is_named x.name) rows)) refl));
+}
+  where
+    named : (y : Row) → IsIn y rows → has_id y.id (without (is_named x.name) rows) ≡ false → (b : Bool) → is_named x.name y ≡ b → is_named x.name y ≡ true
+    named y h none true e = e
+    named y h none false e = absurd (true≢false (sym (has_in (without (is_named x.name) rows) y (without_in (is_named x.name) rows y h e)) ∙ none))
+    away : (b : Bool) → has_id x.id (without (is_named x.name) rows) ≡ b → has_id x.id (without (is_named x.name) rows) ≡ false
+    away true e =
+        let r = in_has (without (is_named x.name) rows) x.id e in
+        let k = in_without (is_named x.name) rows r.0 r.1 in
+        absurd (true≢false (sym (named_self x) ∙ ap (is_named x.name) (sym (distinct_same rows r.0 x distinct k.0 in_rows r.2)) ∙ k.1))
+    away false e = e
 
 -- ---- names of a table
 
@@ -607,11 +629,6 @@ module _ (old new made : Shown) (from to : Option Row) (key : List ℕ) (dir : F
     ]
   ]
 
-  each-in : (P : Row → Type 0) (xs : List Row) (y : Row) → IsIn y xs → Each P xs → P y
-  each-in P [] y h a = absurd h
-  each-in P (x ∷ xs) y (inl h) a = subst P h a.0
-  each-in P (x ∷ xs) y (inr h) a = each-in P xs y h a.1
-
   hangs-all : (n p : Name) (g : Node) → seen e c n ≡ Some g → IsBelowHand to p n → parent_after e c n ≡ Some p
   hangs-all n p g s below =
       let y = hand-row to p n below in
@@ -620,8 +637,8 @@ module _ (old new made : Shown) (from to : Option Row) (key : List ℕ) (dir : F
       let parent : IsParent new p n = subst (λ m. IsParent new m n) (sym y.2) (content-parent new y.0 (entries w.less) (entries w.more) n (was-live y.0 w) y.3) in
       elim (seen-place n g s) [
         | inl r ↦ elim (row-before r.0 r.1) [
-          | inl b ↦ absurd (each-in (λ z. node_name (below_row y.0.content) ≢ Some (name.Entry (id_of z.id))) before r.0 b
-              (each-in (λ x. Each (λ z. node_name (below_row x.content) ≢ Some (name.Entry (id_of z.id))) before) before y.0 y-in has.apart) (y.3 ∙ ap Some r.2))
+          | inl b ↦ absurd (each_in (λ z. node_name (below_row y.0.content) ≢ Some (name.Entry (id_of z.id))) before r.0 b
+              (each_in (λ x. Each (λ z. node_name (below_row x.content) ≢ Some (name.Entry (id_of z.id))) before) before y.0 y-in has.apart) (y.3 ∙ ap Some r.2))
           | inr h ↦ absurd (true≢false (sym (ap is_some (sym (ap new r.2 ∙ hand-none r.0 h) ∙ is.below p n parent.parent parent.child parent.live parent.above parent.named))))
         ]
         | inr k ↦ k.parent_is ∙ (holding.parents n p k.node k.at_it parent).0

@@ -1,5 +1,5 @@
 -- On the way up from a child whose count may have changed.
-use Rattle.std.proofs.Common.{◌≡◌, ◌⊎◌, ◌||◌, ◌+◌, inl, inr, ℕ, zero, suc, Bool, true, false, Option, Some, None, refl, ap, sym, ◌∙◌, subst, arith, length, true≢false}
+use Rattle.std.proofs.Common.{◌≡◌, ◌⊎◌, ◌||◌, ◌+◌, inl, inr, ℕ, suc, Bool, true, false, Option, Some, refl, ap, sym, ◌∙◌, subst, length, true≢false}
 use Rattle.std.specs.Prelude.{IsSome}
 use Rattle.iris_name.specs.Names.{same_name}
 use Rattle.iris_name.specs.NameLaws.{same_name-true, same_name-refl}

@@ -9,3 +9,4 @@ pub mod CountsUp
 pub mod CountsSet
 pub mod Refills
 pub mod Rowed
+pub mod Moved

@@ -9,7 +9,7 @@ use Rattle.iris_node.specs.Trees.{Shown, IsParent, IsAbove, node_name}
 use Rattle.iris_node.specs.Unfolded.{Unfolded, id_of}
 use Rattle.iris_shape.specs.Treap.{Treap, Empty, Over, rows}
 use Rattle.iris_cache.specs.Pictures.{IsLike}
-use Rattle.iris_dirtree.specs.Planted.{IsRowName, Likes, Hang, IsWithin, Stays, IsOver, next, far}
+use Rattle.iris_dirtree.specs.Planted.{Likes, Hang, IsWithin, Stays, IsOver, next}
 use Rattle.iris_dirtree.specs.Rows.{Row, Content, Directory, File, row_entry, entry_of, entries, below_row, has_id}
 use Rattle.iris_dirtree.specs.Ways.{Any}
 use Rattle.iris_dirtree.proofs.Likes.{Placed, entry_named, above_less, above_more, top_parent}
