@@ -10,3 +10,4 @@ pub mod CountsSet
 pub mod Refills
 pub mod Rowed
 pub mod Moved
+pub mod Handed

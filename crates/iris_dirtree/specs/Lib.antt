@@ -7,3 +7,4 @@ pub mod Planted
 pub mod Nodes
 pub mod Counts
 pub mod Lags
+pub mod Laws

@@ -3,6 +3,8 @@
 
 pub(crate) mod counting;
 pub mod kinds;
+pub mod laws;
 mod nodes;
 
 pub use kinds::is_directory;
+pub use laws::{given_up, new_row_in_hand, nothing_in_hand};
