@@ -11,3 +11,4 @@ pub mod Refills
 pub mod Rowed
 pub mod Moved
 pub mod Handed
+pub mod Rights

@@ -70,6 +70,10 @@ local-count (Even version) l e = absurd (true≢false (sym (ap is_some e)))
 local-count (Split file level index low high) l e = ap (λ (o : Option Local). said_count (option_unwrap_or o l)) e
 local-count (Stored version bytes) l e = absurd (true≢false (sym (ap is_some e)))
 
+pub said_counted : (o : Option Unfolded) (l : Local) → said o ≡ Some l → count_of o ≡ said_count l
+said_counted None l h = absurd (true≢false (sym (ap is_some h)))
+said_counted (Some u) l h = local-count u l h
+
 pub like_count : (o : Option Unfolded) (k : Node) → IsLike o k → count_of o ≡ said_count (local_of k)
 like_count None k h = absurd h
 like_count (Some u) k h = local-count u (local_of k) h
@@ -262,9 +266,14 @@ pub hand_unseen : (hand : Option Row) (made : Shown) (p n : Name) (k : Node) →
 hand_unseen None made p n k out below like = below
 hand_unseen (Some x) made p n k out below like = subst (λ o. IsLike o k) (ap made below.0 ∙ out) like
 
-over-top : (t : Shown) (n q : Name) → IsOver t n q → (p : Name) × IsParent t p q
-over-top t _ _ (next p n h) = (p, h)
-over-top t _ _ (far p q n h o) = (q, h)
+pub over_top : (t : Shown) (n q : Name) → IsOver t n q → (p : Name) × IsParent t p q
+over_top t _ _ (next p n h) = (p, h)
+over_top t _ _ (far p q n h o) = (q, h)
+
+-- a row in hand isn't live
+pub out_none : (g : Option Row) (t : Shown) (p n : Name) → IsBelowHand g p n → IsOut g t → t p ≡ None
+out_none None t p n below out = absurd below
+out_none (Some x) t p n below out = ap t below.0 ∙ out
 
 -- the parent that is seen of a child that is seen is its parent in the table
 pub parent_made : (old new made : Shown) (hand : Option Row) (at p : Name) (d : Drafted) (c : Resident) → IsTree made → Lags old new made hand at d c → parent_after d c at ≡ Some p → IsSome (seen d c p) → IsParent made p at
@@ -272,11 +281,8 @@ parent_made old new made hand at p d c tree lags up sees =
     let k = got (seen d c at) lags.there in
     elim (lags.tied at p k.0 k.1 up) [ inl x ↦ x | inr below ↦ absurd (by (got (seen d c p) sees) below) ]
   where
-    out-none : (g : Option Row) → IsBelowHand g p at → IsOut g made → made p ≡ None
-    out-none None below out = absurd below
-    out-none (Some x) below out = ap made below.0 ∙ out
     none-over : IsBelowHand hand p at → IsOver made p at → ⊥
-    none-over below o = none_over made tree p at (out-none hand below lags.out) o
+    none-over below o = none_over made tree p at (out_none hand made p at below lags.out) o
     by : (k : Node) × (seen d c p ≡ Some k) → IsBelowHand hand p at → ⊥
     by k below = hand_unseen hand made p at k.0 lags.out below (lags.nodes p k.0 k.1 (none-over below))
 
@@ -284,7 +290,7 @@ parent_made old new made hand at p d c tree lags up sees =
 pub topmost : (old new made : Shown) (hand : Option Row) (at : Name) (d : Drafted) (c : Resident) → Lags old new made hand at d c → ((p : Name) → parent_after d c at ≡ Some p → IsSome (seen d c p) → ⊥) → Holding old made hand d c
 topmost old new made hand at d c lags none =
     let k = got (seen d c at) lags.there in
-    let free : (n : Name) → IsOver made n at → ⊥ = λ n o. (let q = over-top made n at o in let x = lags.parents at q.0 k.0 k.1 q.1 in none q.0 x.0 x.1) in
+    let free : (n : Name) → IsOver made n at → ⊥ = λ n o. (let q = over_top made n at o in let x = lags.parents at q.0 k.0 k.1 q.1 in none q.0 x.0 x.1) in
     record {
       before = lags.before;
       nodes = λ n g s. lags.nodes n g s (free n);
