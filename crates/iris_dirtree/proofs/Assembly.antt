@@ -69,6 +69,7 @@ moves_out x rows rising distinct in_rows = record {
     named : (y : Row) → IsIn y rows → has_id y.id (without (is_named x.name) rows) ≡ false → (b : Bool) → is_named x.name y ≡ b → is_named x.name y ≡ true
     named y h none true e = e
     named y h none false e = absurd (true≢false (sym (has_in (without (is_named x.name) rows) y (without_in (is_named x.name) rows y h e)) ∙ none))
+
     away : (b : Bool) → has_id x.id (without (is_named x.name) rows) ≡ b → has_id x.id (without (is_named x.name) rows) ≡ false
     away true e =
         let r = in_has (without (is_named x.name) rows) x.id e in
@@ -213,6 +214,7 @@ module _ (old new made : Shown) (from to : Option Row) (key : List ℕ) (dir : F
       by-was : (b : Bool) → has_id dir.0 before ≡ b → has_id dir.0 before ≡ false
       by-was true h = let r = in_has before dir.0 h in absurd (never_over new is top (name.Entry (id_of r.0.id)) (over-was r.0 r.1) (ap (λ k. name.Entry (id_of k)) (sym r.2)))
       by-was false h = h
+
       by-now : (b : Bool) → has_id dir.0 after ≡ b → has_id dir.0 after ≡ false
       by-now true h = let r = in_has after dir.0 h in absurd (never_over made made_is top (name.Entry (id_of r.0.id)) (over-now r.0 r.1) (ap (λ k. name.Entry (id_of k)) (sym r.2)))
       by-now false h = h
@@ -315,9 +317,9 @@ module _ (old new made : Shown) (from to : Option Row) (key : List ℕ) (dir : F
   parent-now p n h parent = elim (fill parent.parent parent.child parent.above) [
     | inl x ↦ inl (record { parent = refilled dir.0 inside parent.parent; child = x.0; live = made-else p h ∙ ap (option_map (refilled dir.0 inside)) parent.live; above = x.1; named = x.2 ∙ parent.named })
     | inr x ↦ inr (
-      let at : top ≡ p = is.own p top parent.parent parent.live x.0 in
-      let folder : IsFolderOf dir.0 (arranged key before) (Some parent.parent) = subst (IsFolderOf dir.0 (arranged key before)) (ap new at ∙ parent.live) has.entry in
-      was-inside-row n (ap node_name (sym (x.1 (arranged key before) folder)) ∙ parent.named))
+        let at : top ≡ p = is.own p top parent.parent parent.live x.0 in
+        let folder : IsFolderOf dir.0 (arranged key before) (Some parent.parent) = subst (IsFolderOf dir.0 (arranged key before)) (ap new at ∙ parent.live) has.entry in
+        was-inside-row n (ap node_name (sym (x.1 (arranged key before) folder)) ∙ parent.named))
   ]
 
   -- what stands below a row: another row, or what is below it by itself
@@ -355,6 +357,7 @@ module _ (old new made : Shown) (from to : Option Row) (key : List ℕ) (dir : F
     where
       was-so : IsElsewhere before after p → IsParent new p n ⊎ IsBelowHand from p n
       was-so k = elim (parent-was p n k parent) [ inl x ↦ inl x | inr r ↦ absurd (no-row n h r) ]
+
       by : Place dir before after p → IsParent new p n ⊎ IsBelowHand from p n
       by (AtDir x) = was-so (subst (IsElsewhere before after) (sym x) dir-else)
       by (AtRow y k x) =
@@ -376,6 +379,7 @@ module _ (old new made : Shown) (from to : Option Row) (key : List ℕ) (dir : F
     where
       so : IsElsewhere before after p → IsParent made p n ⊎ IsBelowHand to p n
       so k = elim (parent-now p n k parent) [ inl x ↦ inl x | inr r ↦ absurd (no-row-was n h r) ]
+
       content : (y : Row) → IsIn y before → p ≡ name.Entry (id_of y.id) → node_name (below_row y.content) ≡ Some n
       content y b x =
           let v = was-row y b in
@@ -383,6 +387,7 @@ module _ (old new made : Shown) (from to : Option Row) (key : List ℕ) (dir : F
             | inl r ↦ absurd (no-row-was n h (r.0, row-was r.0 r.1.less r.1.more r.1.within, r.2))
             | inr g ↦ g
           ]
+
       by : Place dir before after p → IsParent made p n ⊎ IsBelowHand to p n
       by (AtDir x) = so (subst (IsElsewhere before after) (sym x) dir-else)
       by (AtRow y k x) = elim (row-before y k) [
@@ -442,6 +447,7 @@ module _ (old new made : Shown) (from to : Option Row) (key : List ℕ) (dir : F
       id-in (name.Entry i) = i.0
       id-in (name.Part f l i) = 0
       id-in (name.Block f k) = 0
+
       ids : {a b : ℕ} → name.Entry (id_of a) ≡ name.Entry (id_of b) → a ≡ b
       ids q = ap id-in q
 
@@ -537,6 +543,7 @@ module _ (old new made : Shown) (from to : Option Row) (key : List ℕ) (dir : F
             | inl x ↦ absurd (true≢false (sym (ap (same_name top) x ∙ same_name-refl top) ∙ off))
             | inr o ↦ absurd (free o)
           ]
+
       by : (o : Option Unfolded) → new n ≡ o → made n ≡ new n
       by None live = made-else n h ∙ ap (option_map (refilled dir.0 inside)) live ∙ sym live
       by (Some v) live = made-else n h ∙ ap (option_map (refilled dir.0 inside)) live ∙ ap Some (lying v (lies dir.0 v) live refl) ∙ sym live
@@ -611,9 +618,9 @@ module _ (old new made : Shown) (from to : Option Row) (key : List ℕ) (dir : F
   parents-all : (n p : Name) (g : Node) → seen e c n ≡ Some g → IsParent made p n → (parent_after e c n ≡ Some p) × IsSome (seen e c p)
   parents-all n p g s parent = elim (seen-place n g s) [
     | inl r ↦ (
-      let h = row-hung n g s r in
-      let same : h.from ≡ p = made_is.once n h.from p h.parent parent in
-      (h.over_is ∙ ap Some same, subst (λ m. IsSome (seen e c m)) same h.sees))
+        let h = row-hung n g s r in
+        let same : h.from ≡ p = made_is.once n h.from p h.parent parent in
+        (h.over_is ∙ ap Some same, subst (λ m. IsSome (seen e c m)) same h.sees))
     | inr k ↦ elim (parent-before p n k.elsewhere parent) [
       | inl q ↦ (let x = holding.parents n p k.node k.at_it q in (k.parent_is ∙ x.0, sees-parent p n parent x.1))
       | inr q ↦ (let y = hand-row from p n q in (k.parent_is ∙ holding.hangs n p k.node k.at_it q, sees-hand y.0 p y.1 y.2))
@@ -672,9 +679,9 @@ module _ (old new made : Shown) (from to : Option Row) (key : List ℕ) (dir : F
       by (AtDir x) = absurd (known-none n k (subst (λ m. IsSome (seen e c m)) (sym x) (is_there (seen e c top) top-node top-seen)))
       by (AtRow y a x) = elim (row-before y a) [
         | inl b ↦ absurd (
-          let same = missing-so y n b a x (known-none n k) in
-          let none = holding.gone n node-name (sym (known-same n same) ∙ k) in
-          true≢false (sym (ap is_some (sym none ∙ ap new x ∙ was-live y (was-row y b)))))
+            let same = missing-so y n b a x (known-none n k) in
+            let none = holding.gone n node-name (sym (known-same n same) ∙ k) in
+            true≢false (sym (ap is_some (sym none ∙ ap new x ∙ was-live y (was-row y b)))))
         | inr h ↦ absurd (known-none n k (sees-hand y n h x))
       ]
       by (AtGone y b x f) = ap made x ∙ gone-none y b f
@@ -688,11 +695,11 @@ module _ (old new made : Shown) (from to : Option Row) (key : List ℕ) (dir : F
       by (AtDir x) = absurd (known-not n k (subst (λ m. IsSome (seen e c m)) (sym x) (is_there (seen e c top) top-node top-seen)))
       by (AtRow y a x) = elim (row-before y a) [
         | inl b ↦ (
-          let same = missing-so y n b a x (known-not n k) in
-          let w = now-row y a in
-          let part = stays_at (seen e c) t u (Over y w.less w.more) planted.stays w.within (ap (seen e c) (sym x) ∙ ap there_by k) in
-          let live = placed_at new t (Over y w.less w.more) was-placed part in
-          ap made x ∙ now-live y w ∙ sym live ∙ ap new (sym x) ∙ holding.away n node-name (sym (known-same n same) ∙ k))
+            let same = missing-so y n b a x (known-not n k) in
+            let w = now-row y a in
+            let part = stays_at (seen e c) t u (Over y w.less w.more) planted.stays w.within (ap (seen e c) (sym x) ∙ ap there_by k) in
+            let live = placed_at new t (Over y w.less w.more) was-placed part in
+            ap made x ∙ now-live y w ∙ sym live ∙ ap new (sym x) ∙ holding.away n node-name (sym (known-same n same) ∙ k))
         | inr h ↦ absurd (known-not n k (sees-hand y n h x))
       ]
       by (AtGone y b x f) = absurd (true≢false (sym (ap is_some (sym k ∙ ap (λ o. known_by o (held c n)) (gone-seen y n b x f)))))

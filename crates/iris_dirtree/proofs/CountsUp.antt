@@ -90,6 +90,7 @@ runs_out d c start most e at enough so old new made hand tree countable lags = t
   where
     x : Lags old new made hand at e c × Left made (parent_after d c) most 0 start at
     x = so.lags old new made hand tree countable lags
+
     none : (p : Name) → parent_after e c at ≡ Some p → IsSome (seen e c p) → ⊥
     none p up sees =
         let parent = parent_made old new made hand at p e c tree x.0 up sees in

@@ -22,7 +22,7 @@ use Rattle.iris_cache.specs.declared.draft.Change.{Change}
 use Rattle.iris_cache.specs.Resident.{Resident, held}
 use Rattle.iris_cache.specs.Drafted.{Drafted, drafted, known, seen, known_by, there_by}
 use Rattle.iris_cache.specs.Pictures.{IsLike, Holds, LinkHolds, BodyHolds, parent_after}
-use Rattle.iris_dirtree.specs.Counts.{count_of, lead_count, said_count, counted_lead, counted, counted_link, counted_body, counted_entry, counted_node, Recounts}
+use Rattle.iris_dirtree.specs.Counts.{count_of, lead_count, said_count, counted_lead, counted, counted_link, counted_body, counted_entry, counted_node, IsCounted, Recounts}
 use Rattle.iris_dirtree.specs.Hands.{Holding, IsBelowHand, IsOut}
 use Rattle.iris_dirtree.specs.Lags.{Lags, IsUpFrom}
 use Rattle.iris_dirtree.specs.Planted.{IsOver, next, far}
@@ -173,8 +173,13 @@ module _ (old new made : Shown) (hand : Option Row) (at p : Name) (d e : Drafted
 
   up-like : IsLike (made p) (counted_node at count was.0)
   up-like = said_like (made p) (counted_node at count was.0) (
-    lags.counts p at parent (inl refl) ∙ ap (λ k. option_map (counted at k) (said (new p))) count-is
-    ∙ ap (option_map (counted at count)) (like_said (new p) was.0 (lags.above p was.0 was.1 (next p at parent))) ∙ ap Some (sym (node_counted at count was.0)))
+      lags.counts p at parent (inl refl) ∙ ap (λ k. option_map (counted at k) (said (new p))) count-is
+      ∙ ap (option_map (counted at count)) (like_said (new p) was.0 (lags.above p was.0 was.1 (next p at parent))) ∙ ap Some (sym (node_counted at count was.0)))
+
+  says : IsCounted at p d c → said (made p) ≡ said (new p)
+  says right =
+      like_said (made p) (counted_node at count was.0) up-like ∙ ap (λ k. Some (local_of k)) (right child.0 was.0 child.1 few was.1)
+      ∙ sym (like_said (new p) was.0 (lags.above p was.0 was.1 (next p at parent)))
 
   record From (n : Name) (k : Node) : Type 0 where
     node : Node
@@ -256,6 +261,11 @@ module _ (old new made : Shown) (hand : Option Row) (at p : Name) (d e : Drafted
     out = lags.out;
   }
 
+-- where the parent has the child's count already, it says in the new table what it said
+pub right_said : (old new made : Shown) (hand : Option Row) (at p : Name) (d e : Drafted) (c : Resident) → IsTree made → IsCountable made → Lags old new made hand at d c → IsParent made p at
+    → IsSome (seen d c p) → Recounts at p d e c → IsCounted at p d c → said (made p) ≡ said (new p)
+right_said old new made hand at p d e c tree countable lags parent sees step right = says old new made hand at p d e c tree countable lags parent sees step right
+
 -- counts lag no more above the parent
 pub climbed : (old new made : Shown) (hand : Option Row) (at p : Name) (d e : Drafted) (c : Resident) → IsTree made → IsCountable made → Lags old new made hand at d c → IsParent made p at
     → IsSome (seen d c p) → Recounts at p d e c → Lags old new made hand p e c
@@ -283,6 +293,7 @@ parent_made old new made hand at p d c tree lags up sees =
   where
     none-over : IsBelowHand hand p at → IsOver made p at → ⊥
     none-over below o = none_over made tree p at (out_none hand made p at below lags.out) o
+
     by : (k : Node) × (seen d c p ≡ Some k) → IsBelowHand hand p at → ⊥
     by k below = hand_unseen hand made p at k.0 lags.out below (lags.nodes p k.0 k.1 (none-over below))
 

@@ -1,28 +1,27 @@
 -- Where the count of a child is right already, so are all above.
-use Rattle.std.proofs.Common.{◌≡◌, ◌⊎◌, ◌||◌, ◌+◌, inl, inr, ℕ, zero, suc, Bool, true, false, if◌then◌else◌, Option, Some, None, refl, ap, sym, ◌∙◌, subst, length, true≢false, is_some}
+use Rattle.std.proofs.Common.{◌≡◌, ◌⊎◌, ◌+◌, inl, inr, ℕ, zero, suc, Bool, true, false, if◌then◌else◌, Option, Some, None, refl, ap, sym, ◌∙◌, subst, length, true≢false, is_some}
 use Rattle.std.specs.Prelude.{IsSome}
 use Rattle.std.specs.Option.{option_map}
 use Rattle.iris_name.specs.Names.{same_name}
 use Rattle.iris_name.specs.NameLaws.{same_name-true, same_name-refl}
 use Rattle.iris_name.specs.declared.name.Name.{Name}
 use Rattle.iris_name.specs.declared.name.Name.TheVariants as name
-use Rattle.iris_node.specs.declared.node.Node.{Node}
-use Rattle.iris_node.specs.Local.{Lead, Local, FolderAt, LeafAt, local, local_of, led, even}
+use Rattle.iris_node.specs.Local.{FolderAt, LeafAt, local, local_of, led, even}
 use Rattle.iris_node.specs.Trees.{Shown, IsTree, IsParent, IsAbove, node_name, said}
 use Rattle.iris_node.specs.Unfolded.{Unfolded, Absent, Folder, Leaf, Even, Split, Stored, id_of, blocks}
 use Rattle.iris_cache.specs.Applied.{above}
 use Rattle.iris_cache.specs.Resident.{Resident}
 use Rattle.iris_cache.specs.Drafted.{Drafted, seen}
-use Rattle.iris_cache.specs.Pictures.{IsLike, parent_after}
+use Rattle.iris_cache.specs.Pictures.{parent_after}
 use Rattle.iris_cache.proofs.Rising.{above-none}
 use Rattle.iris_cache.proofs.Ways.{over-met}
-use Rattle.iris_dirtree.specs.Counts.{count_of, counted, counted_lead}
-use Rattle.iris_dirtree.specs.Hands.{Holding, IsBelowHand, IsOut}
+use Rattle.iris_dirtree.specs.Counts.{count_of, counted, counted_lead, IsCounted, Recounts}
+use Rattle.iris_dirtree.specs.Hands.{Holding}
 use Rattle.iris_dirtree.specs.Lags.{Lags, IsUpFrom}
 use Rattle.iris_dirtree.specs.Planted.{IsOver, next, far}
-use Rattle.iris_dirtree.specs.Rows.{Row}
-use Rattle.iris_dirtree.proofs.Recounts.{got, is_there, one_of, like_said, said_like, said_counted, over_top, out_none}
-use Rattle.iris_dirtree.proofs.CountsUp.{or-split, step-up, at-parent}
+use Rattle.iris_dirtree.specs.Rows.{Row, IsCountable}
+use Rattle.iris_dirtree.proofs.Recounts.{got, is_there, one_of, like_said, said_like, said_counted, over_top, out_none, climbed, parent_made, right_said}
+use Rattle.iris_dirtree.proofs.CountsUp.{Climbing, or-split, step-up, at-parent}
 use Rattle.iris_dirtree.proofs.Sizes.{never_over, over_parent}
 
 -- ---- counts of a tree are right in it
@@ -120,10 +119,10 @@ module _ (old new made : Shown) (hand : Option Row) (p : Name) (e : Drafted) (c 
       elim (lags.tied m q g.0 g.1 up) [
         | inl parent ↦ by (same_name q n) refl parent (rest (lags.parents m q g.0 g.1 parent).1)
         | inr below ↦ inr (λ o.
-          (let r = over_top made n m o in
-          let x = lags.parents m r.0 g.0 g.1 r.1 in
-          let f : r.0 ≡ q = one_of r.0 q (sym x.0 ∙ up) in
-          true≢false (sym (ap is_some (sym (ap made f ∙ out_none hand made q m below lags.out) ∙ r.1.live)))))
+            (let r = over_top made n m o in
+            let x = lags.parents m r.0 g.0 g.1 r.1 in
+            let f : r.0 ≡ q = one_of r.0 q (sym x.0 ∙ up) in
+            true≢false (sym (ap is_some (sym (ap made f ∙ out_none hand made q m below lags.out) ∙ r.1.live)))))
       ]
     where
       by : (b : Bool) → same_name q n ≡ b → IsParent made q m → IsOver made n q ⊎ (IsOver made n q → ⊥) → IsOver made n m ⊎ (IsOver made n m → ⊥)
@@ -174,3 +173,11 @@ module _ (old new made : Shown) (hand : Option Row) (p : Name) (e : Drafted) (c 
 -- where the child says what it said, nothing lags
 pub right_above : (old new made : Shown) (hand : Option Row) (p : Name) (e : Drafted) (c : Resident) → IsTree new → IsTree made → Lags old new made hand p e c → said (made p) ≡ said (new p) → Holding old made hand e c
 right_above old new made hand p e c is made_is lags same = right old new made hand p e c is made_is lags same
+
+-- the way up ends where the parent has the child's count already
+pub stops : (d : Drafted) (c : Resident) (start : Name) (most k : ℕ) (e f : Drafted) (at p : Name) → Climbing d c start most k e at → parent_after e c at ≡ Some p → IsSome (seen e c p) → Recounts at p e f c → IsCounted at p e c
+    → (old new made : Shown) (hand : Option Row) → IsTree new → IsTree made → IsCountable made → Lags old new made hand start d c → Holding old made hand f c
+stops d c start most k e f at p so up sees step right old new made hand is made_is countable lags =
+    let x = (so.lags old new made hand made_is countable lags).0 in
+    let parent = parent_made old new made hand at p e c made_is x up sees in
+    right_above old new made hand p f c is made_is (climbed old new made hand at p e f c made_is countable x parent sees step) (right_said old new made hand at p e f c made_is countable x parent sees step right)

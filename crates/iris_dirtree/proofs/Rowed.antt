@@ -78,6 +78,7 @@ within_rows (Over z a b) y l m (inl e) = any-right (λ r. r ≡ y) (rows a) (z �
     top-of : Treap Row → Row
     top-of Empty = z
     top-of (Over x c d) = x
+
     top : Over y l m ≡ Over z a b → y ≡ z
     top e = ap top-of e
 within_rows (Over z a b) y l m (inr (inl h)) = any-left (λ r. r ≡ y) (rows a) (z ∷ rows b) (within_rows a y l m h)
