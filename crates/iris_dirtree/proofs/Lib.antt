@@ -12,3 +12,4 @@ pub mod Rowed
 pub mod Moved
 pub mod Handed
 pub mod Rights
+pub mod Finishing
