@@ -1,1 +1,15 @@
-
+pub mod Owned
+pub mod Sees
+pub mod Likes
+pub mod Pasts
+pub mod Assembly
+pub mod Sizes
+pub mod Recounts
+pub mod CountsUp
+pub mod CountsSet
+pub mod Refills
+pub mod Rowed
+pub mod Moved
+pub mod Handed
+pub mod Rights
+pub mod Finishing

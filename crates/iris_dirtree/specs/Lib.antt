@@ -4,3 +4,7 @@ pub mod Ways
 pub mod Needs
 pub mod Places
 pub mod Planted
+pub mod Nodes
+pub mod Counts
+pub mod Lags
+pub mod Laws

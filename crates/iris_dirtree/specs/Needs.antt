@@ -48,12 +48,12 @@ pub record ListedInHand (key : List ℕ) (dir : FileId) (x : Row) (d : Drafted) 
   pub hand : Holding old new (Some x) d c
   pub rows_are : HasRows new key dir rows
 
--- The name is live, now and before; its parent before is resident. Before, this is its hash; for a root any hash may be told.
+-- The name is live, now and before; before, this is its hash, and its parent is resident. A root has no parent, and any hash may be told of it.
 pub record IsWanted (old new : Shown) (c : Resident) (n : Name) (x : Expect) : Type 0 where
   pub live : IsSome (new n)
   pub lived : IsSome (old n)
   pub expected : IsRootName n ⊎ IsExpected x (old n)
-  pub parent : (p : Name) → IsParent old p n → IsSome (held c p)
+  pub parent : IsRootName n ⊎ ((p : Name) → IsParent old p n → IsSome (held c p))
 
 -- the name of the directory's entry, or of one of the rows that are met
 abbrev pub IsMet : FileId → List Row → Name → Type 0
