@@ -1,0 +1,176 @@
+//! A cache beside a table, with names evicted at will.
+
+ghost use Rattle.std.specs.Prelude.{◌≤◌, ◌<◌};
+
+use crate::filling::{ENTRY, FILE, cache_of, record_of, set};
+use crate::settling::{let_go, parts_at, settle_parts};
+use iris_cache::Cache;
+use iris_mac::Keys;
+use iris_name::{Bytes, Name, Reply, Request, Text};
+use iris_node::{Body, Node, Side, decode, encode};
+use iris_table::Table;
+use std::alloc::Global;
+use std::test::Fail;
+
+// How many places the file has.
+const LENGTH: u32 = 6000;
+
+// Choices from a fixed seed.
+#[derive(Drop)]
+struct Dice {
+    state: u64,
+}
+
+impl Dice {
+    fn roll(&mut self, below: u32) -> u32
+        requires { 1 ≤ below }
+        ensures { result < below }
+    {
+        self.state = self
+            .state
+            .wrapping_mul(6_364_136_223_846_793_005)
+            .wrapping_add(1_442_695_040_888_963_407);
+        (self.state >> 33) as u32 % below
+    }
+}
+
+fn path(alloc: Global) -> Result<Text, Fail> {
+    Ok(Text::of("/a".to_string(alloc)?))
+}
+
+// Writes so many places from one on.
+fn write(alloc: Global, table: &mut Table, place: u32, count: u32) -> Result<(), Fail> {
+    let mut bytes = Vec::new(alloc);
+    bytes.resize(count as usize * 4096, 7)?;
+    let request = Request::Write {
+        path: path(alloc)?,
+        offset: place as u64 * 4096,
+        bytes: Bytes::of(bytes),
+    };
+    match table.step(alloc, &request)? {
+        Reply::Done => Ok(()),
+        _ => Err("a write is refused".into()),
+    }
+}
+
+fn resize(alloc: Global, table: &mut Table, places: u32) -> Result<(), Fail> {
+    let request = Request::Resize {
+        path: path(alloc)?,
+        length: places as u64 * 4096,
+    };
+    match table.step(alloc, &request)? {
+        Reply::Done => Ok(()),
+        _ => Err("a resize is refused".into()),
+    }
+}
+
+// The counter of writes, and the side of all versions, in the file's record.
+fn file_in(alloc: Global, records: &[(Name, Bytes)]) -> Result<(u64, Side), Fail> {
+    let record = record_of(records, &ENTRY).ok_or("the entry")?;
+    match decode(alloc, record)?.ok_or("a node")? {
+        Node::Entry(entry) => match entry.body {
+            Body::File {
+                counter,
+                versions,
+                ..
+            } => Ok((counter, versions)),
+            Body::Dir { .. } => Err("a directory".into()),
+        },
+        Node::Part(_) => Err("a part".into()),
+    }
+}
+
+fn side_in(cache: &Cache) -> Option<Side> {
+    match &cache.find(&ENTRY)?.node {
+        Node::Entry(entry) => match entry.body {
+            Body::File { versions, .. } => Some(versions),
+            Body::Dir { .. } => None,
+        },
+        Node::Part(_) => None,
+    }
+}
+
+// Whether each resident part has the record that the table has, and the entry the side.
+fn agrees(alloc: Global, cache: &Cache, records: &[(Name, Bytes)]) -> Result<bool, Fail> {
+    for i in 0..cache.count() {
+        let (name, held) = cache.at(i);
+        if *name != ENTRY {
+            let own = encode(alloc, &held.node)?;
+            match record_of(records, name) {
+                Some(record) if record == own.as_slice() => {}
+                _ => return Ok(false),
+            }
+        }
+    }
+    let (_, side) = file_in(alloc, records)?;
+    Ok(side_in(cache) == Some(side))
+}
+
+// Lets about a half of the parts go that nothing keeps, leaves first. Tells how many went.
+fn forget(alloc: Global, cache: &mut Cache, dice: &mut Dice) -> Result<u64, Fail> {
+    let mut gone = 0u64;
+    for level in 1..17u8 {
+        let names = parts_at(alloc, cache, level)?;
+        for name in names.as_slice() {
+            if dice.roll(2) == 0 && let_go(cache, name) {
+                gone = gone.saturating_add(1);
+            }
+        }
+    }
+    Ok(gone)
+}
+
+// A range of places near one of a few.
+fn range(dice: &mut Dice) -> (u32, u32)
+    ensures some { result.0 < result.1 }
+    ensures within { result.1 ≤ 6000 }
+{
+    let low = dice.roll(3) * 2950 + dice.roll(50);
+    (low, low + 1 + dice.roll(12))
+}
+
+// One change of the table, and the plan of the same over the cache.
+fn change(
+    alloc: Global,
+    table: &mut Table,
+    cache: &mut Cache,
+    dice: &mut Dice,
+    before: &[(Name, Bytes)],
+) -> Result<Vec<(Name, Bytes)>, Fail> {
+    let keys = Keys::of(&[0; 32]);
+    let (low, high) = range(dice);
+    if dice.roll(8) == 0 {
+        let end = LENGTH - 1 - dice.roll(64);
+        resize(alloc, table, end)?;
+        resize(alloc, table, LENGTH)?;
+        set(alloc, cache, before, end, LENGTH, 0)?;
+        return Ok(table.records_of(alloc, &keys)?);
+    }
+    write(alloc, table, low, high - low)?;
+    let records = table.records_of(alloc, &keys)?;
+    let (version, _) = file_in(alloc, records.as_slice())?;
+    set(alloc, cache, before, low, high, version)?;
+    Ok(records)
+}
+
+// Plans that lack parts, with the hashes that they expect; what they make, settled, is the table's.
+#[test]
+fn plans_as_the_table_writes(rt: HostRuntime) -> Result<(), Fail> {
+    let alloc = rt.alloc();
+    let keys = Keys::of(&[0; 32]);
+    let mut table = Table::new(alloc, &keys)?;
+    table.step(alloc, &Request::Create { path: path(alloc)? })?;
+    resize(alloc, &mut table, LENGTH)?;
+    let mut records = table.records_of(alloc, &keys)?;
+    let mut cache = cache_of(alloc, records.as_slice())?;
+    let mut dice = Dice { state: 1 };
+    let mut gone = 0u64;
+    for round in 0..60u32 {
+        records = change(alloc, &mut table, &mut cache, &mut dice, records.as_slice())?;
+        settle_parts(alloc, &mut cache)?;
+        assert!(rt; agrees(alloc, &cache, records.as_slice())?, "round {round}");
+        gone = gone.saturating_add(forget(alloc, &mut cache, &mut dice)?);
+    }
+    assert!(rt; gone > 300, "{gone} went");
+    Ok(())
+}
