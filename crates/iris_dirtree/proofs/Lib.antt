@@ -1,3 +1,4 @@
 pub mod Sees
 pub mod Likes
 pub mod Pasts
+pub mod Assembly

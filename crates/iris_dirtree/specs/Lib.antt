@@ -4,3 +4,5 @@ pub mod Ways
 pub mod Needs
 pub mod Places
 pub mod Planted
+pub mod Counts
+pub mod Lags

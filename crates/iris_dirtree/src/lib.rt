@@ -1,6 +1,7 @@
 //! The treap of a directory, changed in place over cache and draft.
 #![tactic(auto)]
 
+pub(crate) mod counting;
 pub mod kinds;
 
 pub use kinds::is_directory;
