@@ -2,3 +2,4 @@ pub mod Sees
 pub mod Likes
 pub mod Pasts
 pub mod Assembly
+pub mod Owned

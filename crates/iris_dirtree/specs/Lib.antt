@@ -6,3 +6,4 @@ pub mod Places
 pub mod Planted
 pub mod Counts
 pub mod Lags
+pub mod Nodes

@@ -3,5 +3,6 @@
 
 pub(crate) mod counting;
 pub mod kinds;
+mod nodes;
 
 pub use kinds::is_directory;
