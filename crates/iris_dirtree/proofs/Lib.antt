@@ -3,3 +3,5 @@ pub mod Likes
 pub mod Pasts
 pub mod Assembly
 pub mod Owned
+pub mod Steps
+pub mod Climbs

@@ -7,3 +7,5 @@ pub mod Planted
 pub mod Counts
 pub mod Lags
 pub mod Nodes
+pub mod Steps
+pub mod Descents

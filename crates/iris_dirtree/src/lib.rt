@@ -4,5 +4,6 @@
 pub(crate) mod counting;
 pub mod kinds;
 mod nodes;
+mod removing;
 
 pub use kinds::is_directory;
