@@ -5,3 +5,4 @@ pub mod Assembly
 pub mod Owned
 pub mod Steps
 pub mod Climbs
+pub mod Seeks

@@ -1,5 +1,5 @@
 -- How far a plan has come down to a row that it takes out, and down the two treaps beside it.
-use Rattle.std.specs.Prelude.{◌≡◌, ℕ, Bool, true, false, List, Option, Some, None}
+use Rattle.std.specs.Prelude.{◌≡◌, ℕ, Bool, true, false, List, [], Option, Some, None}
 use Rattle.iris_name.specs.declared.name.Hash32.{Hash32}
 use Rattle.iris_name.specs.declared.name.Name.{Name}
 use Rattle.iris_name.specs.declared.name.Name.TheVariants as name
@@ -70,6 +70,7 @@ pub record FoundRow (old new : Shown) (c : Resident) (t : Treap Row) (d : Drafte
   pub is : taken up n t ≡ under front (merge up less more)
   pub crumbs : AreCrumbs old c t d front kept
   pub named : is_named n row ≡ true
+  pub sees : seen d c (entry_name row) ≡ Some (node.Entry e)
   pub like : IsLike (Some (row_entry row (entries less) (entries more))) (node.Entry e)
   pub hashes : (m : Name) (h : Hash32) → Holds (node.Entry e) m h → WasHash old c m h
   pub left : Stands old new c t d (entry_name row) e.left less
@@ -112,8 +113,7 @@ pub record Seeks (d : Drafted) (c : Resident) (n : List ℕ) (link : Option Link
   pub t : Treap Row
   pub p : Name
   pub up : Row → Row → Bool
-  pub kept : List Crumb
-  pub seeking : Seeking old new c t d p up n kept link
+  pub seeking : Seeking old new c t d p up n [] link
   pub met_is : met ≡ met_near n t
 
 -- a plan goes down two treaps that are to be joined, and meets these rows
