@@ -4,3 +4,4 @@ pub mod Ways
 pub mod Needs
 pub mod Places
 pub mod Planted
+pub mod Found

@@ -1,6 +1,9 @@
 //! The treap of a directory, changed in place over cache and draft.
 #![tactic(auto)]
 
+pub mod finding;
 pub mod kinds;
+pub mod nodes;
 
+pub use finding::plan_find;
 pub use kinds::is_directory;
