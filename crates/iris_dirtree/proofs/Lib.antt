@@ -1,3 +1,4 @@
+pub mod Owned
 pub mod Sees
 pub mod Likes
 pub mod Pasts

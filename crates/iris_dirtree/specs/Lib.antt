@@ -4,4 +4,5 @@ pub mod Ways
 pub mod Needs
 pub mod Places
 pub mod Planted
+pub mod Nodes
 pub mod Found

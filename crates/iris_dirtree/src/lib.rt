@@ -3,7 +3,7 @@
 
 pub mod finding;
 pub mod kinds;
-pub mod nodes;
+mod nodes;
 
 pub use finding::plan_find;
 pub use kinds::is_directory;

@@ -1,0 +1,58 @@
+-- A node that is seen stands under its own name.
+use Rattle.std.proofs.Common.{◌≡◌, false, cond, Option, Some, None, refl, ap, sym, ◌∙◌}
+use Rattle.iris_name.specs.Names.{same_name}
+use Rattle.iris_name.specs.NameLaws.{same_name-refl}
+use Rattle.iris_node.specs.declared.node.Link.{Link}
+use Rattle.iris_cache.specs.Pictures.{parent_after}
+use Rattle.iris_dirtree.specs.Planted.{with_top}
+use Rattle.iris_name.specs.declared.name.FileId.{FileId}
+use Rattle.iris_name.specs.declared.name.Name.{Name}
+use Rattle.iris_name.specs.declared.name.Name.TheVariants as name
+use Rattle.iris_node.specs.declared.node.Node.{Node}
+use Rattle.iris_node.specs.declared.node.Node.TheVariants as node
+use Rattle.iris_node.specs.Fields.{EntryFields}
+use Rattle.iris_node.specs.Nodes.{name_of}
+use Rattle.iris_cache.specs.declared.held.Held.{Held}
+use Rattle.iris_cache.specs.declared.draft.Change.{Change}
+use Rattle.iris_cache.specs.Resident.{Resident, held, IsSound}
+use Rattle.iris_cache.specs.Drafted.{Drafted, drafted, seen, known_by, there_by, set_to, IsDraft}
+
+own_by : (d : Drafted) (c : Resident) (n : Name) (k : Node) (o : Option Change) (w : Option Held) → IsDraft d → IsSound c → drafted d n ≡ o → held c n ≡ w → there_by (known_by o w) ≡ Some k → name_of k ≡ n
+own_by d c n k (Some x) w ds cs de he e = ds.own n x k de e
+own_by d c n k None (Some h) ds cs de he e = let q : h.node ≡ k = cc in sym (ap name_of q) ∙ cs.own n h he
+own_by d c n k None None ds cs de he e = cc
+
+pub seen_own : (d : Drafted) (c : Resident) (n : Name) (k : Node) → IsDraft d → IsSound c → seen d c n ≡ Some k → name_of k ≡ n
+seen_own d c n k ds cs e = own_by d c n k (drafted d n) (held c n) ds cs refl refl e
+
+entry_id : Name → FileId
+entry_id (name.Entry id) = id
+entry_id (name.Part f l i) = f
+entry_id (name.Block f p) = f
+
+pub entry_own : (d : Drafted) (c : Resident) (id : FileId) (e : EntryFields) → IsDraft d → IsSound c → seen d c (name.Entry id) ≡ Some (node.Entry e) → e.id ≡ id
+unfolding entry_id
+entry_own d c id e ds cs at = ap entry_id (seen_own d c (name.Entry id) (node.Entry e) ds cs at)
+
+-- what a draft says once an entry is set under a parent
+abbrev pub IsPut : Drafted → Drafted → Option Name → EntryFields → Type 0
+IsPut d e p x = (n : Name) → drafted e n ≡ cond (same_name (name.Entry x.id) n) (Some (set_to p (node.Entry x))) (drafted d n)
+
+pub put_at : (d e : Drafted) (p : Option Name) (x : EntryFields) → IsPut d e p x → drafted e (name.Entry x.id) ≡ Some (set_to p (node.Entry x))
+put_at d e p x set = set (name.Entry x.id) ∙ ap (λ b. cond b (Some (set_to p (node.Entry x))) (drafted d (name.Entry x.id))) (same_name-refl (name.Entry x.id))
+
+pub put_off : (d e : Drafted) (p : Option Name) (x : EntryFields) (n : Name) → IsPut d e p x → same_name (name.Entry x.id) n ≡ false → drafted e n ≡ drafted d n
+put_off d e p x n set off = set n ∙ ap (λ b. cond b (Some (set_to p (node.Entry x))) (drafted d n)) off
+
+pub put_top : (d e : Drafted) (c : Resident) (dir : FileId) (top : Option Link) (x y z w : EntryFields) (p : Option Name) → x.id ≡ dir → seen d c (name.Entry dir) ≡ Some (node.Entry x) → seen d c (name.Entry dir) ≡ Some (node.Entry y)
+    → z ≡ x → w ≡ with_top top z → p ≡ parent_after d c (name.Entry dir) → IsPut d e p w → drafted e (name.Entry dir) ≡ Some (set_to (parent_after d c (name.Entry dir)) (node.Entry (with_top top y)))
+put_top d e c dir top x y z w p own at is zx wz pp set =
+    let same : x ≡ y = cc in
+    let wy : w ≡ with_top top y = wz ∙ ap (with_top top) (zx ∙ same) in
+    let id : w.id ≡ dir = ap (λ v. v.id) wy ∙ ap (λ v. v.id) (sym same) ∙ own in
+    sym (ap (λ i. drafted e (name.Entry i)) id) ∙ put_at d e p w set ∙ ap (λ v. Some (set_to p (node.Entry v))) wy ∙ ap (λ q. Some (set_to q (node.Entry (with_top top y)))) pp
+
+pub put_frame : (d e : Drafted) (c : Resident) (dir : FileId) (top : Option Link) (x z w : EntryFields) (p : Option Name) (n : Name) → x.id ≡ dir → z ≡ x → w ≡ with_top top z → IsPut d e p w → same_name (name.Entry dir) n ≡ false → drafted e n ≡ drafted d n
+put_frame d e c dir top x z w p n own zx wz set off =
+    let id : w.id ≡ dir = ap (λ v. v.id) wz ∙ ap (λ v. v.id) zx ∙ own in
+    put_off d e p w n set (ap (λ i. same_name (name.Entry i) n) id ∙ off)
