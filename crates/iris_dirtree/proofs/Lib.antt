@@ -5,3 +5,5 @@ pub mod Pasts
 pub mod Downs
 pub mod Stands
 pub mod Searches
+pub mod Blocks
+pub mod Placings

@@ -6,3 +6,5 @@ pub mod Places
 pub mod Planted
 pub mod Nodes
 pub mod Found
+pub mod Turns
+pub mod Below

@@ -1,6 +1,6 @@
 //! The row of a name.
 
-ghost use Rattle.std.specs.Prelude.{◌≡◌, ◌+◌, ℕ, List, IfOk, IfErr, IfSome, IsSome, None, length};
+ghost use Rattle.std.specs.Prelude.{◌≡◌, ◌+◌, ◌<◌, ◌^◌, ℕ, List, IfOk, IfErr, IfSome, IsSome, None, length};
 ghost use Rattle.std.specs.Option.{option_copied};
 ghost use Rattle.iris_node.specs.Trees.{Shown};
 ghost use Rattle.iris_cache.specs.Drafted.{known, seen};
@@ -71,7 +71,8 @@ pub(crate) fn top_seen(draft: &Draft, cache: &Cache, dir: FileId) -> Result<Opti
 
 /// How many entries a way down meets at most.
 pub(crate) fn longest_way(draft: &Draft, cache: &Cache) -> u64
-    ensures { result ≡ length draft.now.changes + length cache.now.nodes }
+    ensures count { result ≡ length draft.now.changes + length cache.now.nodes }
+    ensures few { result < 2 ^ 33 }
 {
     u64::from(draft.count()) + u64::from(cache.count())
 }

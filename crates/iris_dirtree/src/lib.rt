@@ -4,6 +4,8 @@
 pub mod finding;
 pub mod kinds;
 mod nodes;
+pub mod placing;
 
 pub use finding::plan_find;
 pub use kinds::is_directory;
+pub use placing::plan_place;

@@ -71,4 +71,4 @@ loop-step-preserved c = λ key old new rows pic.
 
 pub returns-clause-found : goal.returns-clause-found
 returns-clause-found c = λ key old new rows pic.
-    search_long key c.args.name.now c.args.dir c.args.draft.now c.args.cache.now old new rows pic c.loop-step.at c.loop-step._step (omega (arith, c.loop-step-test.false, c.longest_way-step-end.ensures)) (c.loop-step.invariant key old new rows pic)
+    search_long key c.args.name.now c.args.dir c.args.draft.now c.args.cache.now old new rows pic c.loop-step.at c.loop-step._step (omega (arith, c.loop-step-test.false, c.longest_way-step-end.ensures.count)) (c.loop-step.invariant key old new rows pic)
