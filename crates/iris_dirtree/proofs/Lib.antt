@@ -1,8 +1,13 @@
+pub mod Owned
 pub mod Sees
 pub mod Likes
 pub mod Pasts
+pub mod Downs
+pub mod Stands
+pub mod Searches
+pub mod Blocks
+pub mod Placings
 pub mod Assembly
-pub mod Owned
 pub mod Steps
 pub mod Climbs
 pub mod Seeks

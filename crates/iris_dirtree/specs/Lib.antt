@@ -7,5 +7,8 @@ pub mod Planted
 pub mod Counts
 pub mod Lags
 pub mod Nodes
+pub mod Found
+pub mod Turns
+pub mod Below
 pub mod Steps
 pub mod Descents
