@@ -1,18 +1,38 @@
 -- From what a plan makes of a directory's rows to a draft whose counts above the directory lag.
-use Rattle.std.proofs.Common.{◌≡◌, ℕ, Bool, true, false, List, Option, Some, None}
+use Rattle.std.proofs.Common.{◌≡◌, ◌≢◌, ◌⊎◌, ◌==◌, inl, inr, ℕ, Bool, true, false, if◌then◌else◌, List, [], ◌∷◌, Option, Some, None, refl, ap, sym, ◌∙◌, subst, true≢false, is_some}
 use Rattle.std.specs.Prelude.{IsSome}
+use Rattle.std.specs.Option.{option_map}
+use Rattle.std.proofs.lemmas.Bool.{eqb-true}
+use Rattle.iris_name.specs.Names.{same_name}
+use Rattle.iris_name.specs.NameLaws.{same_name-true, same_name-refl}
 use Rattle.iris_name.specs.declared.name.FileId.{FileId}
+use Rattle.iris_name.specs.declared.name.Hash32.{Hash32}
+use Rattle.iris_name.specs.declared.name.Name.{Name}
 use Rattle.iris_name.specs.declared.name.Name.TheVariants as name
-use Rattle.iris_node.specs.Trees.{Shown, IsTree}
+use Rattle.iris_node.specs.declared.node.Node.{Node}
+use Rattle.iris_node.specs.declared.node.Node.TheVariants as node
+use Rattle.iris_node.specs.Fields.{EntryFields}
+use Rattle.iris_node.specs.Local.{local}
+use Rattle.iris_node.specs.Trees.{Shown, IsTree, IsParent, IsAbove, IsNodeName, node_name, said}
+use Rattle.iris_node.specs.Unfolded.{Unfolded, Absent, Folder, Leaf, Even, Split, Stored, id_of}
 use Rattle.iris_shape.specs.Order.{Rising, Distinct}
-use Rattle.iris_shape.specs.Treap.{treap, put, without}
-use Rattle.iris_cache.specs.Resident.{Resident}
-use Rattle.iris_cache.specs.Drafted.{Drafted, seen}
-use Rattle.iris_dirtree.specs.Hands.{Holding}
-use Rattle.iris_dirtree.specs.Lags.{Lags}
-use Rattle.iris_dirtree.specs.Planted.{Planted}
-use Rattle.iris_dirtree.specs.Rows.{Row, HasRows, Rearranges, has_id, row_id, row_name, up}
+use Rattle.iris_shape.specs.Treap.{Treap, Over, Each, rows, treap, put, without}
+use Rattle.iris_shape.proofs.Treaps.{rows_treap}
+use Rattle.iris_cache.specs.declared.draft.Change.{Change}
+use Rattle.iris_cache.specs.Resident.{Resident, held}
+use Rattle.iris_cache.specs.Drafted.{Drafted, drafted, known, seen, known_by, there_by, taken_away, set_to}
+use Rattle.iris_cache.specs.Pictures.{IsLike, IsSettled, IsHashOf, Holds, parent_after, parent_by}
+use Rattle.iris_dirtree.specs.Counts.{count_of, counted}
+use Rattle.iris_dirtree.specs.Hands.{Holding, IsBelowHand, IsOut}
+use Rattle.iris_dirtree.specs.Lags.{Lags, IsUpFrom}
+use Rattle.iris_dirtree.specs.Planted.{Planted, IsOver, IsRowName, IsWithin, next, far, with_top}
+use Rattle.iris_dirtree.specs.Rows.{Row, HasRows, IsFolderOf, Rearranges, IsElsewhere, has_id, row_id, row_name, row_entry, entries, below_row, refilled, arranged, up}
 use Rattle.iris_dirtree.specs.Ways.{Any, is_named}
+use Rattle.iris_dirtree.proofs.Likes.{Placed, Roof, roof, placed_rows, above_less, above_more, entry_named}
+use Rattle.iris_dirtree.proofs.Recounts.{got, is_there, never_none, one_of, like_said, said_like}
+use Rattle.iris_dirtree.proofs.Refills.{lies, untouched, refilled_name, lies_up, lies_over, refilled_counts}
+use Rattle.iris_dirtree.proofs.Rowed.{IsIn, any_row, row_any, has_in, in_has, within_rows, Within, rows_within, less_within, more_within, entries_topped, placed_at, likes_at, stays_at, Stands, stands, over_at, hung_at, above_row, above_content}
+use Rattle.iris_dirtree.proofs.Sizes.{never_over, none_over, over_through}
 
 -- From a list of rows to another, where a row that comes was in hand and one that goes gets into hand.
 pub record Moves (before after : List Row) (from to : Option Row) : Type 0 where
@@ -30,6 +50,330 @@ moves_in p x rows distinct = ?
 -- a row is taken out
 pub moves_out : (x : Row) (rows : List Row) → Rising row_name rows → Distinct row_id rows → Any (λ r. r ≡ x) rows → Moves rows (without (is_named x.name) rows) None (Some x)
 moves_out x rows rising distinct in_rows = ?
+
+-- ---- names of a table
+
+-- a block is no node
+block-none : (t : Shown) → IsTree t → (f : FileId) (k : ℕ) (u : Unfolded) (n : Name) → t (name.Block f k) ≡ Some u → node_name u ≡ Some n → ⊥
+block-none t tree f k (Folder id label less more kept) n live named = by (tree.own (name.Block f k) (name.Entry (id_of id)) (Folder id label less more kept) live refl)
+  where
+    by : name.Entry (id_of id) ≡ name.Block f k → ⊥
+    by e = cc
+block-none t tree f k (Leaf id label less more length counter versions) n live named = by (tree.own (name.Block f k) (name.Entry (id_of id)) (Leaf id label less more length counter versions) live refl)
+  where
+    by : name.Entry (id_of id) ≡ name.Block f k → ⊥
+    by e = cc
+block-none t tree f k (Split g level index low high) n live named = by (tree.own (name.Block f k) (name.Part (id_of g) level index) (Split g level index low high) live refl)
+  where
+    by : name.Part (id_of g) level index ≡ name.Block f k → ⊥
+    by e = cc
+block-none t tree f k Absent n live named = absurd (true≢false (sym (ap is_some named)))
+block-none t tree f k (Even version) n live named = absurd (true≢false (sym (ap is_some named)))
+block-none t tree f k (Stored version bytes) n live named = absurd (true≢false (sym (ap is_some named)))
+
+above-named : (u w : Unfolded) → IsAbove u w → (n : Name) × (node_name u ≡ Some n)
+above-named (Folder id label less more kept) w h = (name.Entry (id_of id), refl)
+above-named (Leaf id label less more length counter versions) w h = (name.Entry (id_of id), refl)
+above-named (Split g level index low high) w h = (name.Part (id_of g) level index, refl)
+above-named Absent w h = absurd h
+above-named (Even version) w h = absurd h
+above-named (Stored version bytes) w h = absurd h
+
+local-named : (u : Unfolded) → IsSome (local u) → (n : Name) × (node_name u ≡ Some n)
+local-named (Folder id label less more kept) h = (name.Entry (id_of id), refl)
+local-named (Leaf id label less more length counter versions) h = (name.Entry (id_of id), refl)
+local-named (Split g level index low high) h = (name.Part (id_of g) level index, refl)
+local-named Absent h = absurd (true≢false (sym h))
+local-named (Even version) h = absurd (true≢false (sym h))
+local-named (Stored version bytes) h = absurd (true≢false (sym h))
+
+block-parent : (t : Shown) → IsTree t → (f : FileId) (k : ℕ) (n : Name) → IsParent t (name.Block f k) n → ⊥
+block-parent t tree f k n h = let x = above-named h.parent h.child h.above in block-none t tree f k h.parent x.0 h.live x.1
+
+block-like : (t : Shown) → IsTree t → (f : FileId) (k : ℕ) (g : Node) → IsLike (t (name.Block f k)) g → ⊥
+block-like t tree f k g like = by (t (name.Block f k)) refl like
+  where
+    by : (o : Option Unfolded) → t (name.Block f k) ≡ o → IsLike o g → ⊥
+    by None e h = h
+    by (Some u) e h = let x = local-named u (is_there (local u) _ h) in block-none t tree f k u x.0 e x.1
+
+over-live : (t : Shown) (n m : Name) → IsOver t n m → (k : Name) × IsParent t n k
+over-live t _ _ (next n m h) = (m, h)
+over-live t _ _ (far n q m h o) = over-live t n q o
+
+-- ---- a name and the rows
+
+-- where a name stands: it is the directory's, a row's, or neither
+pub data Place (dir : FileId) (before after : List Row) (n : Name) : Type 0 where
+  AtDir : (is : n ≡ name.Entry dir) → Place dir before after n
+  AtRow : (y : Row) (in_after : IsIn y after) (is : n ≡ name.Entry (id_of y.id)) → Place dir before after n
+  AtGone : (y : Row) (in_before : IsIn y before) (is : n ≡ name.Entry (id_of y.id)) (not_after : has_id y.id after ≡ false) → Place dir before after n
+  AtElse : (off : same_name (name.Entry dir) n ≡ false) (is : IsElsewhere before after n) → Place dir before after n
+  AtBlock : (f : FileId) (k : ℕ) (is : n ≡ name.Block f k) → Place dir before after n
+
+place-id : (dir : FileId) (before after : List Row) (i : FileId) (a b c : Bool) → same_name (name.Entry dir) (name.Entry i) ≡ a → has_id i.0 after ≡ b → has_id i.0 before ≡ c → Place dir before after (name.Entry i)
+place-id dir before after i true b c e f g = AtDir (sym (same_name-true (name.Entry dir) (name.Entry i) e))
+place-id dir before after i false true c e f g = let r = in_has after i.0 f in AtRow r.0 r.1 (ap (λ k. name.Entry (id_of k)) (sym r.2))
+place-id dir before after i false false true e f g = let r = in_has before i.0 g in AtGone r.0 r.1 (ap (λ k. name.Entry (id_of k)) (sym r.2)) (ap (λ k. has_id k after) r.2 ∙ f)
+place-id dir before after i false false false e f g = AtElse e (g, f)
+
+pub place : (dir : FileId) (before after : List Row) (n : Name) → Place dir before after n
+place dir before after (name.Entry i) = place-id dir before after i (same_name (name.Entry dir) (name.Entry i)) (has_id i.0 after) (has_id i.0 before) refl refl refl
+place dir before after (name.Part f level index) = AtElse refl tt
+place dir before after (name.Block f k) = AtBlock f k refl
+
+module _ (old new made : Shown) (from to : Option Row) (key : List ℕ) (dir : FileId) (before after : List Row) (d e : Drafted) (c : Resident)
+    (holding : Holding old new from d c) (is : IsTree new) (made_is : IsTree made) (has : HasRows new key dir before) (rearranges : Rearranges new made key dir before after)
+    (moves : Moves before after from to) (there : IsSome (seen d c (name.Entry dir))) (planted : Planted old dir (treap (up key) before) (treap (up key) after) d e c) where
+  abbrev t : Treap Row
+  t = treap (up key) before
+
+  abbrev u : Treap Row
+  u = treap (up key) after
+
+  abbrev top : Name
+  top = name.Entry dir
+
+  abbrev inside : Unfolded
+  inside = arranged key after
+
+  was : Roof new dir (entries t)
+  was = roof new key dir before has
+
+  now : Roof made dir (entries u)
+  now = roof made key dir after rearranges.rows
+
+  was-placed : Placed new t
+  was-placed = placed_rows new key dir before is has
+
+  now-placed : Placed made u
+  now-placed = placed_rows made key dir after made_is rearranges.rows
+
+  was-stands : Stands new top t
+  was-stands = stands new t top was.entry was.live was.above was-placed
+
+  now-stands : Stands made top u
+  now-stands = stands made u top now.entry now.live now.above now-placed
+
+  -- the rows of the lists in their places
+  was-row : (y : Row) → IsIn y before → Within t y
+  was-row y h = rows_within t y (subst (IsIn y) (sym (rows_treap (up key) before)) h)
+
+  now-row : (y : Row) → IsIn y after → Within u y
+  now-row y h = rows_within u y (subst (IsIn y) (sym (rows_treap (up key) after)) h)
+
+  row-was : (y : Row) (l m : Treap Row) → IsWithin (Over y l m) t → IsIn y before
+  row-was y l m h = subst (IsIn y) (rows_treap (up key) before) (within_rows t y l m h)
+
+  row-now : (y : Row) (l m : Treap Row) → IsWithin (Over y l m) u → IsIn y after
+  row-now y l m h = subst (IsIn y) (rows_treap (up key) after) (within_rows u y l m h)
+
+  was-live : (y : Row) (w : Within t y) → new (name.Entry (id_of y.id)) ≡ Some (row_entry y (entries w.less) (entries w.more))
+  was-live y w = placed_at new t (Over y w.less w.more) was-placed w.within
+
+  now-live : (y : Row) (w : Within u y) → made (name.Entry (id_of y.id)) ≡ Some (row_entry y (entries w.less) (entries w.more))
+  now-live y w = placed_at made u (Over y w.less w.more) now-placed w.within
+
+  -- the directory stands above its rows
+  over-was : (y : Row) → IsIn y before → IsOver new top (name.Entry (id_of y.id))
+  over-was y h = let w = was-row y h in over_at new top t (Over y w.less w.more) was-stands w.within
+
+  over-now : (y : Row) → IsIn y after → IsOver made top (name.Entry (id_of y.id))
+  over-now y h = let w = now-row y h in over_at made top u (Over y w.less w.more) now-stands w.within
+
+  -- so it is no row of its own
+  dir-else : IsElsewhere before after top
+  dir-else = (by-was (has_id dir.0 before) refl, by-now (has_id dir.0 after) refl)
+    where
+      by-was : (b : Bool) → has_id dir.0 before ≡ b → has_id dir.0 before ≡ false
+      by-was true h = let r = in_has before dir.0 h in absurd (never_over new is top (name.Entry (id_of r.0.id)) (over-was r.0 r.1) (ap (λ k. name.Entry (id_of k)) (sym r.2)))
+      by-was false h = h
+      by-now : (b : Bool) → has_id dir.0 after ≡ b → has_id dir.0 after ≡ false
+      by-now true h = let r = in_has after dir.0 h in absurd (never_over made made_is top (name.Entry (id_of r.0.id)) (over-now r.0 r.1) (ap (λ k. name.Entry (id_of k)) (sym r.2)))
+      by-now false h = h
+
+  made-else : (n : Name) → IsElsewhere before after n → made n ≡ option_map (refilled dir.0 inside) (new n)
+  made-else n h = rearranges.others n h
+
+  -- a row is not elsewhere
+  row-else : (y : Row) → IsIn y after → IsElsewhere before after (name.Entry (id_of y.id)) → ⊥
+  row-else y h s = true≢false (sym (has_in after y h) ∙ s.1)
+
+  row-else-was : (y : Row) → IsIn y before → IsElsewhere before after (name.Entry (id_of y.id)) → ⊥
+  row-else-was y h s = true≢false (sym (has_in before y h) ∙ s.0)
+
+  gone-none : (y : Row) → IsIn y before → has_id y.id after ≡ false → made (name.Entry (id_of y.id)) ≡ None
+  gone-none y h g = rearranges.gone (id_of y.id) (has_in before y h) g
+
+  -- a row of the list after was in hand, or is the same row as before
+  row-before : (y : Row) → IsIn y after → IsIn y before ⊎ (from ≡ Some y)
+  row-before y h = by (has_id y.id before) refl
+    where
+      by : (b : Bool) → has_id y.id before ≡ b → IsIn y before ⊎ (from ≡ Some y)
+      by true e = let r = in_has before y.id e in inl (subst (λ x. IsIn x before) (moves.same r.0 y r.1 h r.2) r.1)
+      by false e = inr (moves.comes y h e)
+
+  hand-none : (y : Row) → from ≡ Some y → new (name.Entry (id_of y.id)) ≡ None
+  hand-none y e = subst (λ h. IsOut h new) e holding.out
+
+  -- what stands above the directory is elsewhere
+  over-else : (n : Name) → IsOver made n top → (same_name top n ≡ false) × IsElsewhere before after n
+  over-else n o = by (place dir before after n)
+    where
+      by : Place dir before after n → (same_name top n ≡ false) × IsElsewhere before after n
+      by (AtDir x) = absurd (never_over made made_is n top o x)
+      by (AtRow y h x) = absurd (never_over made made_is n n (over_through made n top n o (subst (IsOver made top) (sym x) (over-now y h))) refl)
+      by (AtGone y h x g) = absurd (none_over made made_is n top (ap made x ∙ gone-none y h g) o)
+      by (AtElse off x) = (off, x)
+      by (AtBlock f k x) = let p = over-live made n top o in absurd (block-parent made made_is f k p.0 (subst (λ m. IsParent made m p.0) x p.1))
+
+  -- ---- parents in both tables
+
+  unfill : (v w : Unfolded) → IsAbove (refilled dir.0 inside v) w → ((x : Unfolded) × IsAbove v x × (node_name x ≡ node_name w)) ⊎ (w ≡ inside)
+  unfill (Folder id label less more kept) w (inl f) = inl (less, inl refl, sym (refilled_name dir.0 inside less) ∙ ap node_name (sym f))
+  unfill (Folder id label less more kept) w (inr (inl f)) = inl (more, inr (inl refl), sym (refilled_name dir.0 inside more) ∙ ap node_name (sym f))
+  unfill (Folder id label less more kept) w (inr (inr f)) = by (id == dir.0) f
+    where
+      by : (b : Bool) → w ≡ (if b then inside else refilled dir.0 inside kept) → ((x : Unfolded) × IsAbove (Folder id label less more kept) x × (node_name x ≡ node_name w)) ⊎ (w ≡ inside)
+      by true g = inr g
+      by false g = inl (kept, inr (inr refl), sym (refilled_name dir.0 inside kept) ∙ ap node_name (sym g))
+  unfill (Leaf id label less more length counter versions) w (inl f) = inl (less, inl refl, sym (refilled_name dir.0 inside less) ∙ ap node_name (sym f))
+  unfill (Leaf id label less more length counter versions) w (inr (inl f)) = inl (more, inr (inl refl), sym (refilled_name dir.0 inside more) ∙ ap node_name (sym f))
+  unfill (Leaf id label less more length counter versions) w (inr (inr f)) = inl (versions, inr (inr refl), ap node_name (sym f))
+  unfill (Split g level index low high) w f = inl (w, f, refl)
+  unfill Absent w f = absurd f
+  unfill (Even version) w f = absurd f
+  unfill (Stored version bytes) w f = absurd f
+
+  fill : (v w : Unfolded) → IsAbove v w → ((x : Unfolded) × IsAbove (refilled dir.0 inside v) x × (node_name x ≡ node_name w)) ⊎ ((node_name v ≡ Some top) × ((k : Unfolded) → IsFolderOf dir.0 k (Some v) → w ≡ k))
+  fill (Folder id label less more kept) w (inl f) = inl (refilled dir.0 inside less, inl refl, refilled_name dir.0 inside less ∙ ap node_name (sym f))
+  fill (Folder id label less more kept) w (inr (inl f)) = inl (refilled dir.0 inside more, inr (inl refl), refilled_name dir.0 inside more ∙ ap node_name (sym f))
+  fill (Folder id label less more kept) w (inr (inr f)) = by (id == dir.0) refl
+    where
+      by : (b : Bool) → (id == dir.0) ≡ b
+          → ((x : Unfolded) × IsAbove (refilled dir.0 inside (Folder id label less more kept)) x × (node_name x ≡ node_name w)) ⊎ ((node_name (Folder id label less more kept) ≡ Some top) × ((k : Unfolded) → IsFolderOf dir.0 k (Some (Folder id label less more kept)) → w ≡ k))
+      by true g = inr (ap (λ k. Some (name.Entry (id_of k))) (eqb-true id dir.0 g), λ k h. f ∙ h.1)
+      by false g = inl (refilled dir.0 inside kept, inr (inr (ap (λ z. if z then inside else refilled dir.0 inside kept) (sym g))), refilled_name dir.0 inside kept ∙ ap node_name (sym f))
+  fill (Leaf id label less more length counter versions) w (inl f) = inl (refilled dir.0 inside less, inl refl, refilled_name dir.0 inside less ∙ ap node_name (sym f))
+  fill (Leaf id label less more length counter versions) w (inr (inl f)) = inl (refilled dir.0 inside more, inr (inl refl), refilled_name dir.0 inside more ∙ ap node_name (sym f))
+  fill (Leaf id label less more length counter versions) w (inr (inr f)) = inl (versions, inr (inr refl), ap node_name (sym f))
+  fill (Split g level index low high) w f = inl (w, f, refl)
+  fill Absent w f = absurd f
+  fill (Even version) w f = absurd f
+  fill (Stored version bytes) w f = absurd f
+
+  -- a name of one of these rows
+  abbrev IsRow : List Row → Name → Type 0
+  IsRow xs n = (y : Row) × IsIn y xs × (n ≡ name.Entry (id_of y.id))
+
+  inside-row : (n : Name) → node_name inside ≡ Some n → IsRow after n
+  unfolding arranged
+  inside-row n h = let r = entries_topped u n h in (r.row, row-now r.row r.less r.more (subst (IsWithin (Over r.row r.less r.more)) (sym r.is) (inl refl)), r.named)
+
+  was-inside-row : (n : Name) → node_name (arranged key before) ≡ Some n → IsRow before n
+  unfolding arranged
+  was-inside-row n h = let r = entries_topped t n h in (r.row, row-was r.row r.less r.more (subst (IsWithin (Over r.row r.less r.more)) (sym r.is) (inl refl)), r.named)
+
+  from-made : (o : Option Unfolded) (x : Unfolded) → option_map (refilled dir.0 inside) o ≡ Some x → (v : Unfolded) × (o ≡ Some v) × (refilled dir.0 inside v ≡ x)
+  from-made None x h = absurd (true≢false (sym (ap is_some h)))
+  from-made (Some v) x h = (v, refl, one_of (refilled dir.0 inside v) x h)
+
+  parent-was : (p n : Name) → IsElsewhere before after p → IsParent made p n → IsParent new p n ⊎ IsRow after n
+  parent-was p n h parent =
+      let v = from-made (new p) parent.parent (sym (made-else p h) ∙ parent.live) in
+      elim (unfill v.0 parent.child (subst (λ x. IsAbove x parent.child) (sym v.2) parent.above)) [
+        | inl x ↦ inl (record { parent = v.0; child = x.0; live = v.1; above = x.1; named = x.2 ∙ parent.named })
+        | inr x ↦ inr (inside-row n (ap node_name (sym x) ∙ parent.named))
+      ]
+
+  parent-now : (p n : Name) → IsElsewhere before after p → IsParent new p n → IsParent made p n ⊎ IsRow before n
+  parent-now p n h parent = elim (fill parent.parent parent.child parent.above) [
+    | inl x ↦ inl (record { parent = refilled dir.0 inside parent.parent; child = x.0; live = made-else p h ∙ ap (option_map (refilled dir.0 inside)) parent.live; above = x.1; named = x.2 ∙ parent.named })
+    | inr x ↦ inr (
+      let at : top ≡ p = is.own p top parent.parent parent.live x.0 in
+      let folder : IsFolderOf dir.0 (arranged key before) (Some parent.parent) = subst (IsFolderOf dir.0 (arranged key before)) (ap new at ∙ parent.live) has.entry in
+      was-inside-row n (ap node_name (sym (x.1 (arranged key before) folder)) ∙ parent.named))
+  ]
+
+  -- what stands below a row: another row, or what is below it by itself
+  row-child : (s : Shown) (x : Treap Row) (y : Row) (w : Within x y) (n : Name) → s (name.Entry (id_of y.id)) ≡ Some (row_entry y (entries w.less) (entries w.more)) → IsParent s (name.Entry (id_of y.id)) n
+      → ((z : Row) × Within x z × (n ≡ name.Entry (id_of z.id))) ⊎ (node_name (below_row y.content) ≡ Some n)
+  row-child s x y w n live parent =
+      let at : row_entry y (entries w.less) (entries w.more) ≡ parent.parent = one_of _ _ (sym live ∙ parent.live) in
+      elim (above_row y.id y.name y.content (entries w.less) (entries w.more) parent.child (subst (λ v. IsAbove v parent.child) (sym at) parent.above)) [
+        | inl f ↦ inl (let r = entries_topped w.less n (ap node_name (sym f) ∙ parent.named) in (r.row, record { less = r.less; more = r.more; within = less_within y w.less w.more x r.row r.less r.more r.is w.within }, r.named))
+        | inr g ↦ elim g [
+          | inl f ↦ inl (let r = entries_topped w.more n (ap node_name (sym f) ∙ parent.named) in (r.row, record { less = r.less; more = r.more; within = more_within y w.less w.more x r.row r.less r.more r.is w.within }, r.named))
+          | inr f ↦ inr (ap node_name (sym f) ∙ parent.named)
+        ]
+      ]
+
+  content-parent : (s : Shown) (y : Row) (a b : Unfolded) (n : Name) → s (name.Entry (id_of y.id)) ≡ Some (row_entry y a b) → node_name (below_row y.content) ≡ Some n → IsParent s (name.Entry (id_of y.id)) n
+  content-parent s y a b n live named = record { parent = row_entry y a b; child = below_row y.content; live = live; above = above_content y.id y.name y.content a b; named = named }
+
+  no-row : (n : Name) → IsElsewhere before after n → IsRow after n → ⊥
+  no-row n h r = row-else r.0 r.1 (subst (IsElsewhere before after) r.2 h)
+
+  no-row-was : (n : Name) → IsElsewhere before after n → IsRow before n → ⊥
+  no-row-was n h r = row-else-was r.0 r.1 (subst (IsElsewhere before after) r.2 h)
+
+  below-hand : (y : Row) (hand : Option Row) (p n : Name) → hand ≡ Some y → p ≡ name.Entry (id_of y.id) → node_name (below_row y.content) ≡ Some n → IsBelowHand hand p n
+  below-hand y hand p n h f g = subst (λ x. IsBelowHand x p n) (sym h) (f, g)
+
+  hand-row : (hand : Option Row) (p n : Name) → IsBelowHand hand p n → (y : Row) × (hand ≡ Some y) × (p ≡ name.Entry (id_of y.id)) × (node_name (below_row y.content) ≡ Some n)
+  hand-row None p n h = absurd h
+  hand-row (Some y) p n h = (y, refl, h.0, h.1)
+
+  -- the parent of what is no row was its parent before, or the row that was in hand
+  parent-before : (p n : Name) → IsElsewhere before after n → IsParent made p n → IsParent new p n ⊎ IsBelowHand from p n
+  parent-before p n h parent = by (place dir before after p)
+    where
+      was-so : IsElsewhere before after p → IsParent new p n ⊎ IsBelowHand from p n
+      was-so k = elim (parent-was p n k parent) [ inl x ↦ inl x | inr r ↦ absurd (no-row n h r) ]
+      by : Place dir before after p → IsParent new p n ⊎ IsBelowHand from p n
+      by (AtDir x) = was-so (subst (IsElsewhere before after) (sym x) dir-else)
+      by (AtRow y k x) =
+          let w = now-row y k in
+          elim (row-child made u y w n (now-live y w) (subst (λ m. IsParent made m n) x parent)) [
+            | inl r ↦ absurd (no-row n h (r.0, row-now r.0 r.1.less r.1.more r.1.within, r.2))
+            | inr g ↦ elim (row-before y k) [
+              | inl b ↦ inl (let v = was-row y b in subst (λ m. IsParent new m n) (sym x) (content-parent new y (entries v.less) (entries v.more) n (was-live y v) g))
+              | inr b ↦ inr (below-hand y from p n b x g)
+            ]
+          ]
+      by (AtGone y k x g) = absurd (true≢false (sym (ap is_some (sym (ap made x ∙ gone-none y k g) ∙ parent.live))))
+      by (AtElse off x) = was-so x
+      by (AtBlock f k x) = absurd (block-parent made made_is f k n (subst (λ m. IsParent made m n) x parent))
+
+  -- the parent before of what is no row is its parent, or the row that gets into hand
+  parent-after-all : (p n : Name) → IsElsewhere before after n → IsParent new p n → IsParent made p n ⊎ IsBelowHand to p n
+  parent-after-all p n h parent = by (place dir before after p)
+    where
+      so : IsElsewhere before after p → IsParent made p n ⊎ IsBelowHand to p n
+      so k = elim (parent-now p n k parent) [ inl x ↦ inl x | inr r ↦ absurd (no-row-was n h r) ]
+      content : (y : Row) → IsIn y before → p ≡ name.Entry (id_of y.id) → node_name (below_row y.content) ≡ Some n
+      content y b x =
+          let v = was-row y b in
+          elim (row-child new t y v n (was-live y v) (subst (λ m. IsParent new m n) x parent)) [
+            | inl r ↦ absurd (no-row-was n h (r.0, row-was r.0 r.1.less r.1.more r.1.within, r.2))
+            | inr g ↦ g
+          ]
+      by : Place dir before after p → IsParent made p n ⊎ IsBelowHand to p n
+      by (AtDir x) = so (subst (IsElsewhere before after) (sym x) dir-else)
+      by (AtRow y k x) = elim (row-before y k) [
+        | inl b ↦ inl (let w = now-row y k in subst (λ m. IsParent made m n) (sym x) (content-parent made y (entries w.less) (entries w.more) n (now-live y w) (content y b x)))
+        | inr b ↦ absurd (true≢false (sym (ap is_some (sym (ap new x ∙ hand-none y b) ∙ parent.live))))
+      ]
+      by (AtGone y k x g) = inr (below-hand y to p n (moves.goes y k g) x (content y k x))
+      by (AtElse off x) = so x
+      by (AtBlock f k x) = absurd (block-parent new is f k n (subst (λ m. IsParent new m n) x parent))
+
+  -- what is below the row that was in hand is below it in its place
+  hand-parent : (p n : Name) → IsBelowHand from p n → IsParent made p n
+  hand-parent p n h =
+      let r = hand-row from p n h in
+      let w = now-row r.0 (moves.came r.0 r.1) in
+      subst (λ m. IsParent made m n) (sym r.2) (content-parent made r.0 (entries w.less) (entries w.more) n (now-live r.0 w) r.3)
 
 pub assembled : (old new made : Shown) (from to : Option Row) (key : List ℕ) (dir : FileId) (before after : List Row) (d e : Drafted) (c : Resident)
     → Holding old new from d c → IsTree new → IsTree made → HasRows new key dir before → Rearranges new made key dir before after → Moves before after from to

@@ -8,6 +8,12 @@ pub mod Searches
 pub mod Blocks
 pub mod Placings
 pub mod Assembly
+pub mod Sizes
+pub mod Recounts
+pub mod CountsUp
+pub mod CountsSet
+pub mod Refills
+pub mod Rowed
 pub mod Steps
 pub mod Climbs
 pub mod Seeks

@@ -3,7 +3,6 @@ use Rattle.std.specs.Prelude.{◌≡◌, ◌⊎◌, Option, Some, None, IsSome}
 use Rattle.std.specs.Option.{option_map}
 use Rattle.iris_name.specs.declared.name.Hash32.{Hash32}
 use Rattle.iris_name.specs.declared.name.Name.{Name}
-use Rattle.iris_name.specs.declared.name.Name.TheVariants.{Entry, Part, Block}
 use Rattle.iris_node.specs.declared.node.Node.{Node}
 use Rattle.iris_node.specs.Trees.{Shown, IsNodeName, IsParent, said}
 use Rattle.iris_cache.specs.declared.draft.Change.{Change}
@@ -14,12 +13,6 @@ use Rattle.iris_dirtree.specs.Counts.{count_of, counted}
 use Rattle.iris_dirtree.specs.Hands.{IsBelowHand, IsOut}
 use Rattle.iris_dirtree.specs.Planted.{IsOver}
 use Rattle.iris_dirtree.specs.Rows.{Row}
-
--- the name of an entry
-abbrev pub IsEntryName : Name → Type 0
-IsEntryName (Entry id) = Unit {0}
-IsEntryName (Part file level index) = ⊥
-IsEntryName (Block file place) = ⊥
 
 -- a name is the child's, or stands above it
 abbrev pub IsUpFrom : Shown → Name → Name → Type 0
