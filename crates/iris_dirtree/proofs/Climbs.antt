@@ -19,7 +19,7 @@ use Rattle.iris_cache.specs.Resident.{Resident, held}
 use Rattle.iris_cache.specs.Drafted.{Drafted, drafted, seen, known_by, there_by, set_to}
 use Rattle.iris_cache.specs.Pictures.{Holds, LinkHolds, IsLike, parent_after, parent_by}
 use Rattle.iris_dirtree.specs.declared.removing.Crumb.{Crumb}
-use Rattle.iris_dirtree.specs.Lags.{IsEntryName}
+use Rattle.iris_dirtree.specs.Counts.{IsEntryName}
 use Rattle.iris_dirtree.specs.Nodes.{turned, LinksTo}
 use Rattle.iris_dirtree.specs.Planted.{IsWithin}
 use Rattle.iris_dirtree.specs.Rows.{Row, entries, row_entry}

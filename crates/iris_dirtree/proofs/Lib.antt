@@ -17,3 +17,6 @@ pub mod Rowed
 pub mod Steps
 pub mod Climbs
 pub mod Seeks
+pub mod Begins
+pub mod Withouts
+pub mod Plants

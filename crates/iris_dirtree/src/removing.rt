@@ -7,13 +7,17 @@ ghost use Rattle.iris_node.specs.Fields.{EntryFields};
 ghost use Rattle.iris_node.specs.Rules.{IsLinked};
 ghost use Rattle.iris_node.specs.Trees.{Shown};
 ghost use Rattle.iris_node.specs.Unfolded.{blocks};
-ghost use Rattle.iris_shape.specs.Treap.{Treap};
+ghost use Rattle.iris_shape.specs.Treap.{Treap, treap, without};
 ghost use Rattle.iris_cache.specs.Drafted.{Drafted, drafted, seen};
 ghost use Rattle.iris_dirtree.specs.Descents.{Seeking, FoundRow, Joining, Ended, IsStop, Seeks, Joins};
-ghost use Rattle.iris_dirtree.specs.Lags.{IsEntryName};
+ghost use Rattle.iris_dirtree.specs.Hands.{HoldsTrue, IsRowNode};
+ghost use Rattle.iris_dirtree.specs.Counts.{IsEntryName};
+ghost use Rattle.iris_dirtree.specs.Needs.{IsDirectory, IsShort, Listed};
 ghost use Rattle.iris_dirtree.specs.Nodes.{LinksTo, turned};
-ghost use Rattle.iris_dirtree.specs.Rows.{Row, entries, up};
+ghost use Rattle.iris_dirtree.specs.Planted.{Planted};
+ghost use Rattle.iris_dirtree.specs.Rows.{Row, arranged, entries, up};
 ghost use Rattle.iris_dirtree.specs.Steps.{AreNamed, Once, Rising, IsPut, crumb_above};
+ghost use Rattle.iris_dirtree.specs.Ways.{Any, is_named, near_name};
 
 use crate::nodes::{copy_entry, entry_at, is_named, link_to, set_top, side, stands_above, stands_before, top_of, turn};
 use iris_cache::{Cache, Draft, Short};
@@ -231,7 +235,15 @@ fn unplant(
     keys: &Keys,
     dir: FileId,
     name: &Text,
-) -> Result<EntryNode, Short> {
+) -> Result<EntryNode, Short>
+    requires { IsDirectory draft.old cache.now dir }
+    ensures planted { IfOk result (λ e. (old new : Shown) → (x : Row) → (rows : List Row) → Listed keys.now.order dir draft.old cache.now old new rows → Any (λ r. r ≡ x) rows → x.name ≡ name.now
+        → blocks (arranged keys.now.order (without (is_named name.now) rows)) < 2 ^ 64 → Planted old dir (treap (up keys.now.order) rows) (treap (up keys.now.order) (without (is_named name.now) rows)) draft.old draft.new cache.now) }
+    ensures row { IfOk result (λ e. (old new : Shown) → (x : Row) → (rows : List Row) → Listed keys.now.order dir draft.old cache.now old new rows → Any (λ r. r ≡ x) rows → x.name ≡ name.now → IsRowNode x e × HoldsTrue old cache.now e) }
+    ensures stays { IfOk result (λ e. (n : SpecName) → IsSome (seen draft.old cache.now n) → (n ≡ Name.Entry e.id → ⊥) → IsSome (seen draft.new cache.now n)) }
+    ensures others { OnOk result ((n : SpecName) → (IsEntryName n → ⊥) → drafted draft.new n ≡ drafted draft.old n) }
+    ensures short { IfErr result (IsShort (Listed keys.now.order dir draft.old cache.now) (near_name name.now keys.now.order) draft.old cache.now dir) }
+{
     let top = top_of(draft, cache, dir)?;
     let Found { path, row } = find_row(alloc, draft, cache, top, name)?;
     let Met { path, end } = join_sides(alloc, draft, cache, keys, &row, path)?;

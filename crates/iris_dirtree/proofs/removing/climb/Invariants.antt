@@ -6,7 +6,7 @@ use Rattle.iris_node.specs.Trees.{Shown}
 use Rattle.iris_node.specs.Unfolded.{blocks}
 use Rattle.iris_shape.specs.Treap.{Treap}
 use Rattle.iris_cache.specs.Drafted.{Drafted, drafted, seen}
-use Rattle.iris_dirtree.specs.Lags.{IsEntryName}
+use Rattle.iris_dirtree.specs.Counts.{IsEntryName}
 use Rattle.iris_dirtree.specs.Rows.{Row, entries}
 use Rattle.iris_dirtree.specs.Steps.{AreNamed, Once, Rising}
 use Rattle.iris_dirtree.proofs.removing.climb.Given as goal
