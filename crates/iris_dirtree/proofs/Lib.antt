@@ -20,3 +20,4 @@ pub mod Seeks
 pub mod Begins
 pub mod Withouts
 pub mod Plants
+pub mod Planting

@@ -140,19 +140,19 @@ module _ (old : Shown) (c : Resident) (t : Treap Row) where
           record { leads = subst L (sym is) r.leads; seated = subst S (sym is) s; off = subst O (sym is) r.off }
       by (x ∷ xs) is k s = absurd k
 
-  likes_from : (e : Drafted) (p : Name) (w : Treap Row) → Seated old c t e p w → Likes (seen e c) w
+  pub likes_from : (e : Drafted) (p : Name) (w : Treap Row) → Seated old c t e p w → Likes (seen e c) w
   likes_from e p Empty s = tt
   likes_from e p (Over y l m) s = ((λ node at. (s.0 node at).like), likes_from e (entry_name y) l s.2, likes_from e (entry_name y) m s.3)
 
-  hang_from : (e : Drafted) (p : Name) (w : Treap Row) → Seated old c t e p w → Hang (seen e c) (parent_after e c) p w
+  pub hang_from : (e : Drafted) (p : Name) (w : Treap Row) → Seated old c t e p w → Hang (seen e c) (parent_after e c) p w
   hang_from e p Empty s = tt
   hang_from e p (Over y l m) s = ((λ node at. let r = s.0 node at in (r.parent, r.there)), hang_from e (entry_name y) l s.2, hang_from e (entry_name y) m s.3)
 
-  stays_from : (e : Drafted) (p : Name) (w : Treap Row) → Seated old c t e p w → Stays (seen e c) t w
+  pub stays_from : (e : Drafted) (p : Name) (w : Treap Row) → Seated old c t e p w → Stays (seen e c) t w
   stays_from e p Empty s = tt
   stays_from e p (Over y l m) s = (s.1, stays_from e (entry_name y) l s.2, stays_from e (entry_name y) m s.3)
 
-  hashes_from : (e : Drafted) (p : Name) (w : Treap Row) (n m : Name) (x : Node) (h : Hash32) → Seated old c t e p w → IsRowName (rows w) n → seen e c n ≡ Some x → Holds x m h → WasHash old c m h
+  pub hashes_from : (e : Drafted) (p : Name) (w : Treap Row) (n m : Name) (x : Node) (h : Hash32) → Seated old c t e p w → IsRowName (rows w) n → seen e c n ≡ Some x → Holds x m h → WasHash old c m h
   hashes_from e p Empty n m x h s k at holds = absurd k
   hashes_from e p (Over y l r) n m x h s k at holds = by (λ g. hashes_from e (entry_name y) l n m x h s.2 g at holds) (λ g. hashes_from e (entry_name y) r n m x h s.3 g at holds) (any_split (λ (z : Row). n ≡ entry_name z) (rows l) (y ∷ rows r) k)
     where

@@ -266,3 +266,8 @@ join_stop c d up start es less more j k false (Need m x) joins lack = (lack.2, (
     let r = stands_wanted old new c s.t d now.r k now.b met m lack.0 lack.2 now.right (λ y l m is. let W : Treap Row → Type 0 = λ w. IsAmong y (way (λ _. false) w) in now.met_more y (subst W (sym is) (inl refl))) in
     let W : Expect → Type 0 = λ x. IsWanted old new c m x in
     (r.0, subst W (sym lack.1) r.1)))
+
+-- where the row is found, the two treaps beside it are to be joined
+pub found_joining : (old new : Shown) (c : Resident) (t : Treap Row) (d : Drafted) (up : Row → Row → Bool) (n : List ℕ) (kept : List Crumb) (e : EntryFields) (u : Treap Row) → taken up n t ≡ u → FoundRow old new c t d up n kept e → Joining old new c t d up (met_near n t) u kept e.left e.right
+found_joining old new c t d up n kept e u is f =
+    record { front = f.front; a = f.less; b = f.more; q = entry_name f.row; r = entry_name f.row; is = sym is ∙ f.is; crumbs = f.crumbs; left = f.left; right = f.right; met_less = f.met_less; met_more = f.met_more }
