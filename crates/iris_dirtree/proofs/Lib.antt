@@ -2,3 +2,5 @@ pub mod Owned
 pub mod Sees
 pub mod Likes
 pub mod Pasts
+pub mod Fitting
+pub mod Walks

@@ -5,3 +5,5 @@ pub mod Needs
 pub mod Places
 pub mod Planted
 pub mod Nodes
+pub mod Grafts
+pub mod Splits
