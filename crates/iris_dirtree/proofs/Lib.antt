@@ -4,3 +4,5 @@ pub mod Likes
 pub mod Pasts
 pub mod Fitting
 pub mod Walks
+pub mod Halving
+pub mod Growth
