@@ -6,3 +6,10 @@ pub mod Fitting
 pub mod Walks
 pub mod Halving
 pub mod Growth
+pub mod Assembly
+pub mod Sizes
+pub mod Recounts
+pub mod CountsUp
+pub mod CountsSet
+pub mod Refills
+pub mod Rowed

@@ -7,17 +7,13 @@ use Rattle.iris_node.specs.declared.node.Node.{Node}
 use Rattle.iris_node.specs.Fields.{EntryFields}
 use Rattle.iris_node.specs.Local.{local, entry_local}
 use Rattle.iris_node.specs.Trees.{Shown, node_name, IsNodeName, IsParent}
-use Rattle.iris_node.specs.Unfolded.{Unfolded, Absent, id_of}
+use Rattle.iris_node.specs.Unfolded.{Absent, id_of}
 use Rattle.iris_cache.specs.declared.draft.Change.{Change}
 use Rattle.iris_cache.specs.Resident.{Resident, held}
 use Rattle.iris_cache.specs.Drafted.{Drafted, drafted, known, seen}
 use Rattle.iris_cache.specs.Pictures.{Pictures, IsLike, IsSettled, IsHashOf, Holds, BodyHolds, parent_after}
-use Rattle.iris_dirtree.specs.Rows.{Row, Content, Directory, File, row_entry}
-
--- what lies directly below a row by itself
-abbrev pub below_row : Content → Unfolded
-below_row (Directory inside) = inside
-below_row (File size counter versions) = versions
+use Rattle.iris_dirtree.specs.Rows.{Row, row_entry}
+pub use Rattle.iris_dirtree.specs.Rows.{below_row}
 
 -- the second name is that of the node directly below the row in hand, if there is one, and the first is the row's
 abbrev pub IsBelowHand : Option Row → Name → Name → Type 0

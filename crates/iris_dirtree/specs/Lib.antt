@@ -7,3 +7,5 @@ pub mod Planted
 pub mod Nodes
 pub mod Grafts
 pub mod Splits
+pub mod Counts
+pub mod Lags

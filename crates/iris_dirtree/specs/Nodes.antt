@@ -15,6 +15,7 @@ use Rattle.iris_node.specs.Fields.{EntryFields}
 use Rattle.iris_cache.specs.declared.held.Short.{Short}
 use Rattle.iris_cache.specs.declared.held.Short.TheVariants.{Need, NoMemory}
 use Rattle.iris_cache.specs.Resident.{Resident}
+use Rattle.iris_cache.specs.Pictures.{Holds}
 use Rattle.iris_cache.specs.Drafted.{Drafted, drafted, known, set_to}
 
 -- the link to the entries of greater names, or to those of lesser ones
@@ -78,3 +79,12 @@ IsPut d e p x = (n : Name) → drafted e n ≡ (if same_name (name.Entry x.id) n
 -- only entries are set, and what is set is seen
 abbrev pub OnlyEntries : Drafted → Drafted → Type 0
 OnlyEntries d e = (n : Name) → (drafted e n ≡ drafted d n) ⊎ ((id : FileId) × (x : EntryFields) × (p : Option Name) × (n ≡ name.Entry id) × (drafted e n ≡ Some (set_to p (node.Entry x))))
+
+-- the link holds a hash of what holds one, and where there is none nothing does
+abbrev pub IsLinkOf : (Hash32 → Type 0) → Option Link → Type 0
+IsLinkOf holds None = (x : Hash32) → holds x → ⊥
+IsLinkOf holds (Some l) = holds l.hash
+
+-- the link by which a node holds a hash of an entry, if it does
+abbrev pub IsLinkIn : Node → FileId → Option Link → Type 0
+IsLinkIn k i l = IsLinkOf (Holds k (name.Entry i)) l

@@ -43,6 +43,16 @@ topped top (File size counter versions) = File size counter versions
 abbrev pub with_top : Option Link → EntryFields → EntryFields
 with_top top e = record { id = e.id; name = e.name; left = e.left; right = e.right; body = topped top e.body }
 
+-- a treap is one of those in another
+abbrev pub IsWithin : Treap Row → Treap Row → Type 0
+IsWithin v Empty = ⊥
+IsWithin v (Over y l m) = (v ≡ Over y l m) ⊎ (IsWithin v l ⊎ IsWithin v m)
+
+-- a row of the second treap that isn't seen stands over what it stood over in the first
+abbrev pub Stays : (Name → Option Node) → Treap Row → Treap Row → Type 0
+Stays s t Empty = Unit {0}
+Stays s t (Over y l m) = (s (name.Entry (id_of y.id)) ≡ None → IsWithin (Over y l m) t) × Stays s t l × Stays s t m
+
 -- Of the treap t of a directory's rows a draft made the treap u, and its entry leads to it.
 pub record Planted (old : Shown) (dir : FileId) (t u : Treap Row) (d e : Drafted) (c : Resident) : Type 0 where
   pub top : Option Link
@@ -50,6 +60,7 @@ pub record Planted (old : Shown) (dir : FileId) (t u : Treap Row) (d e : Drafted
   pub entry : (x : EntryFields) → seen d c (name.Entry dir) ≡ Some (node.Entry x) → drafted e (name.Entry dir) ≡ Some (set_to (parent_after d c (name.Entry dir)) (node.Entry (with_top top x)))
   pub likes : Likes (seen e c) u
   pub hang : Hang (seen e c) (parent_after e c) (name.Entry dir) u
+  pub stays : Stays (seen e c) t u
   -- a hash that a row's node or the directory's holds of an absent or a settled node was its true one before
   pub hashes : (n m : Name) (node : Node) (h : Hash32) → IsRowName (rows u) n ⊎ (n ≡ name.Entry dir) → seen e c n ≡ Some node → Holds node m h → IsSettled (held c m) → IsHashOf (old m) h
   -- nothing else is changed

@@ -1,12 +1,12 @@
 -- The rows of a directory in a table, and a table in which they are others.
-use Rattle.std.specs.Prelude.{◌≡◌, ◌⊎◌, ◌==◌, ◌≤◌, ◌<◌, ◌^◌, ℕ, Bool, true, false, List, Option, Some, None, if◌then◌else◌}
+use Rattle.std.specs.Prelude.{◌≡◌, ◌≢◌, ◌⊎◌, ◌==◌, ◌≤◌, ◌<◌, ◌^◌, ℕ, Bool, true, false, List, Option, Some, None, if◌then◌else◌}
 use Rattle.std.specs.Option.{option_map}
 use Rattle.std.specs.List.{list_any}
 use Rattle.iris_name.specs.Hmac.{priority}
 use Rattle.iris_name.specs.declared.name.FileId.{FileId}
 use Rattle.iris_name.specs.declared.name.Name.{Name}
 use Rattle.iris_name.specs.declared.name.Name.TheVariants as name
-use Rattle.iris_node.specs.Trees.{Shown, IsNodeName, IsParent}
+use Rattle.iris_node.specs.Trees.{Shown, node_name, IsNodeName, IsParent}
 use Rattle.iris_node.specs.Unfolded.{Unfolded, Absent, Folder, Leaf, Even, Split, Stored, id_of, blocks}
 use Rattle.iris_shape.specs.Order.{beside, Rising, Distinct}
 use Rattle.iris_shape.specs.Treap.{Treap, Empty, Over, treap, Each}
@@ -15,6 +15,11 @@ use Rattle.iris_shape.specs.Treap.{Treap, Empty, Over, treap, Each}
 pub data Content : Type 0 where
   Directory : (inside : Unfolded) → Content
   File : (size counter : ℕ) (versions : Unfolded) → Content
+
+-- what lies directly below a row by itself
+abbrev pub below_row : Content → Unfolded
+below_row (Directory inside) = inside
+below_row (File size counter versions) = versions
 
 -- a row of a directory
 pub record Row : Type 0 where
@@ -67,6 +72,8 @@ pub record HasRows (t : Shown) (key : List ℕ) (dir : FileId) (rows : List Row)
   pub distinct : Distinct row_id rows
   -- ids 0 and 1 are those of the roots, which stand in no directory
   pub named : Each (λ r. 2 ≤ r.id) rows
+  -- what lies directly below a row by itself is no row of the same directory
+  pub apart : Each (λ x. Each (λ y. node_name (below_row x.content) ≢ Some (name.Entry (id_of y.id))) rows) rows
 
 -- an entry or a part, in which the directory of an id has this inside it
 abbrev pub refilled : ℕ → Unfolded → Unfolded → Unfolded

@@ -5,17 +5,24 @@ ghost use Rattle.iris_name.specs.Hmac.{priority};
 ghost use Rattle.iris_name.specs.Names.{same_name};
 ghost use Rattle.iris_name.specs.declared.name.Name.{Name as SpecName};
 ghost use Rattle.iris_node.specs.Rules.{IsLinked};
-ghost use Rattle.iris_node.specs.Trees.{Shown};
-ghost use Rattle.iris_shape.specs.Treap.{Treap, Each};
+ghost use Rattle.iris_node.specs.Trees.{Shown, IsTree};
+ghost use Rattle.iris_shape.specs.Treap.{Treap, Each, treap, put};
 ghost use Rattle.iris_cache.specs.Resident.{Resident};
 ghost use Rattle.iris_cache.specs.Drafted.{Drafted, drafted, seen, set_to};
-ghost use Rattle.iris_dirtree.specs.Rows.{Row};
-ghost use Rattle.iris_dirtree.specs.Ways.{before};
+ghost use Rattle.iris_cache.specs.Pictures.{Drafts};
+ghost use Rattle.iris_dirtree.specs.Counts.{IsEntryName};
+ghost use Rattle.iris_dirtree.specs.Rows.{Row, Rearranges, IsCountable, up};
+ghost use Rattle.iris_dirtree.specs.Ways.{before, along_name};
+ghost use Rattle.iris_dirtree.specs.Hands.{IsRowNode, HoldsTrue};
+ghost use Rattle.iris_dirtree.specs.Needs.{IsDirectory, ListedInHand, IsShort};
+ghost use Rattle.iris_dirtree.specs.Planted.{Planted};
 ghost use Rattle.iris_dirtree.specs.Nodes.{toward, turned, between, LinksTo, IsLinkLack, IsPut, OnlyEntries};
 ghost use Rattle.iris_dirtree.specs.Grafts.{Fits, Leads, Reached};
 ghost use Rattle.iris_dirtree.specs.Splits.{IsKnown, IsRead, IsWayShort, IsSplitWay, Splits, Halved, Growing, Grows};
 
-use crate::nodes::{between, entry_at, is_named, link_to, side, stands_above, stands_before, turn};
+use crate::counting::recount;
+use crate::hashes::hash_held;
+use crate::nodes::{between, entry_at, is_named, link_to, set_top, side, stands_above, stands_before, top_of, turn};
 use iris_cache::{Cache, Draft, Short};
 use iris_mac::Keys;
 use iris_name::{FileId, Hash32, Name, NoMemory, Text};
@@ -257,4 +264,57 @@ fn climb(draft: &mut Draft, path: Vec<Crumb>, link: Link) -> Result<Link, NoMemo
         link = settle(draft, crumb, Some(link))?;
     }
     Ok(link)
+}
+
+// Puts an entry into the treap of a directory. The counts above the directory stay.
+fn plant(
+    alloc: Global,
+    draft: &mut Draft,
+    cache: &Cache,
+    keys: &Keys,
+    dir: FileId,
+    node: EntryNode,
+) -> Result<(), Short>
+    requires dir { IsDirectory draft.old cache.now dir }
+    requires row { 2 ≤ node.id.0 }
+    ensures planted { OnOk result ((old new made : Shown) → (x : Row) → (rows : List Row) → ListedInHand keys.now.order dir x draft.old cache.now old new rows → IsRowNode x node → HoldsTrue old cache.now node → IsTree made → IsCountable made
+        → Rearranges new made keys.now.order dir rows (put (before x.name) x rows) → IsSome (seen draft.old cache.now (Name.Entry dir)) × Planted old dir (treap (up keys.now.order) rows) (treap (up keys.now.order) (put (before x.name) x rows)) draft.old draft.new cache.now) }
+    ensures entries { OnOk result (OnlyEntries draft.old draft.new) }
+    ensures short { IfErr result (λ e. (x : Row) → IsShort (ListedInHand keys.now.order dir x draft.old cache.now) (along_name node.name keys.now.order) draft.old cache.now dir e) }
+{
+    let name = node.name.copy(alloc)?;
+    let id = node.id;
+    let top = top_of(draft, cache, dir)?;
+    let above = walk_above(alloc, draft, cache, keys, top, dir, &name, id)?;
+    let below = walk_below(alloc, draft, cache, above.at, &name, id)?;
+    let halves = rise(draft, below)?;
+    let seat = seat(draft, node, hash_held(cache, id), above.last, halves)?;
+    let link = climb(draft, above.path, seat)?;
+    set_top(alloc, draft, cache, dir, Some(link))?;
+    Ok(())
+}
+
+/// Puts the entry of a row that is in hand, with what is below it, into a directory. Where the directory has a row of its name
+/// already nothing is pictured, and want of memory is answered.
+pub fn plan_insert(
+    alloc: Global,
+    draft: &mut Draft,
+    cache: &Cache,
+    keys: &Keys,
+    dir: FileId,
+    node: EntryNode,
+) -> Result<(), Short>
+    requires dir { IsDirectory draft.old cache.now dir }
+    ensures inserted { OnOk result ((old new made : Shown) → (x : Row) → (rows : List Row) → ListedInHand keys.now.order dir x draft.old cache.now old new rows → IsRowNode x node → HoldsTrue old cache.now node → IsTree made → IsCountable made
+        → Rearranges new made keys.now.order dir rows (put (before x.name) x rows) → Drafts old made draft.new cache.now) }
+    ensures stays { OnOk result ((n : SpecName) → IsSome (seen draft.old cache.now n) → IsSome (seen draft.new cache.now n)) }
+    ensures others { OnOk result ((n : SpecName) → (IsEntryName n → ⊥) → drafted draft.new n ≡ drafted draft.old n) }
+    ensures short { IfErr result (λ e. (x : Row) → IsShort (ListedInHand keys.now.order dir x draft.old cache.now) (along_name node.name keys.now.order) draft.old cache.now dir e) }
+{
+    if node.id.0 < 2 {
+        return Ok(());
+    }
+    plant(alloc, draft, cache, keys, dir, node)?;
+    recount(alloc, draft, cache, dir)?;
+    Ok(())
 }
