@@ -1,5 +1,5 @@
 -- From what a plan makes of a directory's rows to a draft whose counts above the directory lag.
-use Rattle.std.proofs.Common.{◌≡◌, ◌≢◌, ◌⊎◌, ◌==◌, inl, inr, ℕ, Bool, true, false, if◌then◌else◌, List, [], ◌∷◌, Option, Some, None, refl, ap, sym, ◌∙◌, subst, true≢false, is_some}
+use Rattle.std.proofs.Common.{◌≡◌, ◌≢◌, ◌⊎◌, ◌==◌, inl, inr, ℕ, Bool, true, false, if◌then◌else◌, List, [], ◌∷◌, Option, Some, None, refl, ap, sym, ◌∙◌, subst, true≢false, is_some, eq-eqb}
 use Rattle.std.specs.Prelude.{IsSome}
 use Rattle.std.specs.Option.{option_map}
 use Rattle.std.proofs.lemmas.Bool.{eqb-true}
@@ -12,7 +12,10 @@ use Rattle.iris_name.specs.declared.name.Name.TheVariants as name
 use Rattle.iris_node.specs.declared.node.Node.{Node}
 use Rattle.iris_node.specs.declared.node.Node.TheVariants as node
 use Rattle.iris_node.specs.Fields.{EntryFields}
-use Rattle.iris_node.specs.Local.{local}
+use Rattle.iris_node.specs.Local.{local, led, led_by, entry_local}
+use Rattle.iris_node.specs.declared.node.Link.{Link}
+use Rattle.iris_node.specs.declared.node.Body.{Body}
+use Rattle.iris_node.specs.declared.node.Body.TheVariants.{Dir, File as FileBody}
 use Rattle.iris_node.specs.Trees.{Shown, IsTree, IsParent, IsAbove, IsNodeName, node_name, said}
 use Rattle.iris_node.specs.Unfolded.{Unfolded, Absent, Folder, Leaf, Even, Split, Stored, id_of}
 use Rattle.iris_shape.specs.Order.{Rising, Distinct}
@@ -25,13 +28,13 @@ use Rattle.iris_cache.specs.Pictures.{IsLike, IsSettled, IsHashOf, Holds, parent
 use Rattle.iris_dirtree.specs.Counts.{count_of, counted}
 use Rattle.iris_dirtree.specs.Hands.{Holding, IsBelowHand, IsOut}
 use Rattle.iris_dirtree.specs.Lags.{Lags, IsUpFrom}
-use Rattle.iris_dirtree.specs.Planted.{Planted, IsOver, IsRowName, IsWithin, next, far, with_top}
+use Rattle.iris_dirtree.specs.Planted.{Planted, IsOver, IsRowName, IsWithin, next, far, topped, with_top}
 use Rattle.iris_dirtree.specs.Rows.{Row, HasRows, IsFolderOf, Rearranges, IsElsewhere, has_id, row_id, row_name, row_entry, entries, below_row, refilled, arranged, up}
 use Rattle.iris_dirtree.specs.Ways.{Any, is_named}
 use Rattle.iris_dirtree.proofs.Likes.{Placed, Roof, roof, placed_rows, above_less, above_more, entry_named}
 use Rattle.iris_dirtree.proofs.Recounts.{got, is_there, never_none, one_of, like_said, said_like}
-use Rattle.iris_dirtree.proofs.Refills.{lies, untouched, refilled_name, lies_up, lies_over, refilled_counts}
-use Rattle.iris_dirtree.proofs.Rowed.{IsIn, any_row, row_any, has_in, in_has, within_rows, Within, rows_within, less_within, more_within, entries_topped, placed_at, likes_at, stays_at, Stands, stands, over_at, hung_at, above_row, above_content}
+use Rattle.iris_dirtree.proofs.Refills.{lies, untouched, refilled_name, lies_named, lies_up, lies_over, refilled_counts}
+use Rattle.iris_dirtree.proofs.Rowed.{IsIn, any_row, row_any, has_in, in_has, within_rows, Within, rows_within, less_within, more_within, entries_topped, placed_at, likes_at, stays_at, Stands, stands, over_at, Hung, hung_at, above_row, above_content}
 use Rattle.iris_dirtree.proofs.Sizes.{never_over, none_over, over_through}
 
 -- From a list of rows to another, where a row that comes was in hand and one that goes gets into hand.
@@ -375,7 +378,332 @@ module _ (old new made : Shown) (from to : Option Row) (key : List ℕ) (dir : F
       let w = now-row r.0 (moves.came r.0 r.1) in
       subst (λ m. IsParent made m n) (sym r.2) (content-parent made r.0 (entries w.less) (entries w.more) n (now-live r.0 w) r.3)
 
+  -- ---- what the draft says of each name
+
+  row-in-was : (n : Name) → IsRowName (rows t) n → IsRow before n
+  row-in-was n h = let r = any_row (λ x. n ≡ name.Entry (id_of x.id)) (rows t) h in (r.0, subst (IsIn r.0) (rows_treap (up key) before) r.1, r.2)
+
+  row-in-now : (n : Name) → IsRowName (rows u) n → IsRow after n
+  row-in-now n h = let r = any_row (λ x. n ≡ name.Entry (id_of x.id)) (rows u) h in (r.0, subst (IsIn r.0) (rows_treap (up key) after) r.1, r.2)
+
+  was-named : (y : Row) (n : Name) → IsIn y before → n ≡ name.Entry (id_of y.id) → IsRowName (rows t) n
+  was-named y n h x = row_any (λ r. n ≡ name.Entry (id_of r.id)) (rows t) y (subst (IsIn y) (sym (rows_treap (up key) before)) h) x
+
+  now-named : (y : Row) (n : Name) → IsIn y after → n ≡ name.Entry (id_of y.id) → IsRowName (rows u) n
+  now-named y n h x = row_any (λ r. n ≡ name.Entry (id_of r.id)) (rows u) y (subst (IsIn y) (sym (rows_treap (up key) after)) h) x
+
+  drafted-else : (n : Name) → same_name top n ≡ false → IsElsewhere before after n → drafted e n ≡ drafted d n
+  drafted-else n off h = planted.others n (λ r. no-row-was n h (row-in-was n r)) (λ r. no-row n h (row-in-now n r)) (λ x. true≢false (sym (ap (same_name top) x ∙ same_name-refl top) ∙ off))
+
+  seen-same : (n : Name) → drafted e n ≡ drafted d n → seen e c n ≡ seen d c n
+  seen-same n x = ap (λ o. there_by (known_by o (held c n))) x
+
+  known-same : (n : Name) → drafted e n ≡ drafted d n → known e c n ≡ known d c n
+  known-same n x = ap (λ o. known_by o (held c n)) x
+
+  parent-same : (n : Name) → drafted e n ≡ drafted d n → parent_after e c n ≡ parent_after d c n
+  parent-same n x = ap (λ o. parent_by o (held c n)) x
+
+  drafted-block : (f : FileId) (k : ℕ) → drafted e (name.Block f k) ≡ drafted d (name.Block f k)
+  drafted-block f k = planted.others (name.Block f k) (λ r. none-was (row-in-was (name.Block f k) r).2) (λ r. none-was (row-in-now (name.Block f k) r).2) (none-was)
+    where
+      none-was : {i : FileId} → name.Block f k ≡ name.Entry i → ⊥
+      none-was x = cc
+
+  block-seen : (f : FileId) (k : ℕ) (g : Node) → seen e c (name.Block f k) ≡ Some g → ⊥
+  block-seen f k g s = block-like new is f k g (holding.nodes (name.Block f k) g (sym (seen-same (name.Block f k) (drafted-block f k)) ∙ s))
+
+  gone-seen : (y : Row) (n : Name) → IsIn y before → n ≡ name.Entry (id_of y.id) → has_id y.id after ≡ false → drafted e n ≡ Some taken_away
+  gone-seen y n h x g = planted.went n (was-named y n h x) (λ r. (let z = row-in-now n r in true≢false (sym (has_in after z.0 z.1) ∙ ap (λ k. has_id k after) (sym (ids (sym x ∙ z.2))) ∙ g)))
+    where
+      id-in : Name → ℕ
+      id-in (name.Entry i) = i.0
+      id-in (name.Part f l i) = 0
+      id-in (name.Block f k) = 0
+      ids : {a b : ℕ} → name.Entry (id_of a) ≡ name.Entry (id_of b) → a ≡ b
+      ids q = ap id-in q
+
+  -- ---- the directory's entry
+
+  entry-of : (o : Option Unfolded) (g : Node) → IsFolderOf dir.0 (arranged key before) o → IsLike o g → (x : EntryFields) × (g ≡ node.Entry x)
+  entry-of o (node.Entry x) f like = (x, refl)
+  entry-of None (node.Part x) f like = absurd f
+  entry-of (Some (Folder id label less more kept)) (node.Part x) f like = cc
+  entry-of (Some (Leaf id label less more length counter versions)) (node.Part x) f like = absurd f
+  entry-of (Some Absent) (node.Part x) f like = absurd f
+  entry-of (Some (Even version)) (node.Part x) f like = absurd f
+  entry-of (Some (Split g level index low high)) (node.Part x) f like = absurd f
+  entry-of (Some (Stored version bytes)) (node.Part x) f like = absurd f
+
+  top-was : (x : EntryFields) × (seen d c top ≡ Some (node.Entry x))
+  top-was = let g = got (seen d c top) there in let x = entry-of (new top) g.0 has.entry (holding.nodes top g.0 g.1) in (x.0, g.1 ∙ ap Some x.1)
+
+  abbrev top-node : Node
+  top-node = node.Entry (with_top planted.top top-was.0)
+
+  top-drafted : drafted e top ≡ Some (set_to (parent_after d c top) top-node)
+  top-drafted = planted.entry top-was.0 top-was.1
+
+  top-seen : seen e c top ≡ Some top-node
+  top-seen = ap (λ o. there_by (known_by o (held c top))) top-drafted
+
+  top-parent : parent_after e c top ≡ parent_after d c top
+  top-parent = ap (λ o. parent_by o (held c top)) top-drafted
+
+  -- ---- what is seen stays so
+
+  sees-else : (n : Name) → same_name top n ≡ false → IsElsewhere before after n → IsSome (seen d c n) → IsSome (seen e c n)
+  sees-else n off h s = subst IsSome (sym (seen-same n (drafted-else n off h))) s
+
+  sees-hand : (y : Row) (n : Name) → from ≡ Some y → n ≡ name.Entry (id_of y.id) → IsSome (seen e c n)
+  sees-hand y n h x = planted.came n (now-named y n (moves.came y h) x) (λ r. (let z = row-in-was n r in let w = was-row z.0 z.1 in
+      true≢false (sym (ap is_some (sym (ap new x ∙ hand-none y h) ∙ ap new z.2 ∙ was-live z.0 w)))))
+
+  -- a parent that is seen stays so
+  sees-parent : (p n : Name) → IsParent made p n → IsSome (seen d c p) → IsSome (seen e c p)
+  sees-parent p n parent s = by (place dir before after p)
+    where
+      by : Place dir before after p → IsSome (seen e c p)
+      by (AtDir x) = subst (λ m. IsSome (seen e c m)) (sym x) (is_there (seen e c top) top-node top-seen)
+      by (AtRow y k x) = elim (row-before y k) [ inl b ↦ planted.kept p (was-named y p b x) (now-named y p k x) s | inr h ↦ sees-hand y p h x ]
+      by (AtGone y k x g) = absurd (true≢false (sym (ap is_some (sym (ap made x ∙ gone-none y k g) ∙ parent.live))))
+      by (AtElse off x) = sees-else p off x s
+      by (AtBlock f k x) = absurd (block-parent made made_is f k n (subst (λ m. IsParent made m n) x parent))
+
+  -- ---- what is like what
+
+  dir-like : (id : ℕ) (label : List ℕ) (less more k l : Unfolded) (x : EntryFields) (b : Body) (link : Option Link) → local (Folder id label less more k) ≡ Some (entry_local x b) → led_by link ≡ led l
+      → local (Folder id label less more l) ≡ Some (entry_local (with_top link x) (topped link b))
+  dir-like id label less more k l x (Dir was) link h f = cc
+  dir-like id label less more k l x (FileBody size counter versions) link h f = cc
+
+  same-entry : dir.0 == dir.0 ≡ true
+  same-entry = eq-eqb dir.0 dir.0 refl
+
+  beside-same : (w : Unfolded) → IsAbove (refilled dir.0 inside (Folder dir.0 was.label was.less was.more (entries t))) (refilled dir.0 inside w) → refilled dir.0 inside w ≡ w
+  beside-same w h = by (lies dir.0 w) refl
+    where
+      by : (b : Bool) → lies dir.0 w ≡ b → refilled dir.0 inside w ≡ w
+      by false f = untouched dir.0 inside w f
+      by true f = absurd (never_over made made_is top top (lies_over made made_is dir.0 inside w top (refilled dir.0 inside (Folder dir.0 was.label was.less was.more (entries t))) f
+          (made-else top dir-else ∙ ap (option_map (refilled dir.0 inside)) (was.live ∙ ap Some was.is)) h) refl)
+
+  top-is : made top ≡ Some (Folder dir.0 was.label was.less was.more (entries u))
+  unfolding arranged
+  top-is =
+      let a = beside-same was.less (inl refl) in
+      let b = beside-same was.more (inr (inl refl)) in
+      let k : (if dir.0 == dir.0 then inside else refilled dir.0 inside (entries t)) ≡ entries u = ap (λ z. if z then inside else refilled dir.0 inside (entries t)) same-entry in
+      made-else top dir-else ∙ ap (option_map (refilled dir.0 inside)) (was.live ∙ ap Some was.is) ∙ (λ z. Some (Folder dir.0 was.label (a z) (b z) (k z)))
+
+  top-like : IsLike (made top) top-node
+  top-like =
+      let old-like = like_said (new top) (node.Entry top-was.0) (holding.nodes top (node.Entry top-was.0) top-was.1) in
+      let old-local = sym (ap said (was.live ∙ ap Some was.is)) ∙ old-like in
+      said_like (made top) top-node (ap said top-is ∙ dir-like dir.0 was.label was.less was.more (entries t) (entries u) top-was.0 top-was.0.body planted.top old-local planted.leads)
+
+  -- what is neither at nor above the directory, nor a row, is the same in both tables
+  else-same : (n : Name) → same_name top n ≡ false → IsElsewhere before after n → (IsOver made n top → ⊥) → made n ≡ new n
+  else-same n off h free = by (new n) refl
+    where
+      lying : (v : Unfolded) (b : Bool) → new n ≡ Some v → lies dir.0 v ≡ b → refilled dir.0 inside v ≡ v
+      lying v false live f = untouched dir.0 inside v f
+      lying v true live f =
+          let m = lies_named dir.0 v f in
+          let own : node_name v ≡ Some n = m.1 ∙ ap Some (is.own n m.0 v live m.1) in
+          elim (lies_up made made_is dir.0 inside v n f own (made-else n h ∙ ap (option_map (refilled dir.0 inside)) live)) [
+            | inl x ↦ absurd (true≢false (sym (ap (same_name top) x ∙ same_name-refl top) ∙ off))
+            | inr o ↦ absurd (free o)
+          ]
+      by : (o : Option Unfolded) → new n ≡ o → made n ≡ new n
+      by None live = made-else n h ∙ ap (option_map (refilled dir.0 inside)) live ∙ sym live
+      by (Some v) live = made-else n h ∙ ap (option_map (refilled dir.0 inside)) live ∙ ap Some (lying v (lies dir.0 v) live refl) ∙ sym live
+
+  unseen-gone : (n : Name) → drafted e n ≡ Some taken_away → seen e c n ≡ None
+  unseen-gone n x = ap (λ o. there_by (known_by o (held c n))) x
+
+  nodes-all : (n : Name) (g : Node) → seen e c n ≡ Some g → (IsOver made n top → ⊥) → IsLike (made n) g
+  nodes-all n g s free = by (place dir before after n)
+    where
+      by : Place dir before after n → IsLike (made n) g
+      by (AtDir x) = subst (λ m. IsLike (made m) g) (sym x) (subst (IsLike (made top)) (one_of top-node g (sym top-seen ∙ ap (seen e c) (sym x) ∙ s)) top-like)
+      by (AtRow y k x) =
+          let w = now-row y k in
+          subst (λ o. IsLike o g) (sym (ap made x ∙ now-live y w)) (likes_at (seen e c) u (Over y w.less w.more) planted.likes w.within g (ap (seen e c) (sym x) ∙ s))
+      by (AtGone y k x f) = absurd (true≢false (sym (ap is_some (sym (unseen-gone n (gone-seen y n k x f)) ∙ s))))
+      by (AtElse off h) = subst (λ o. IsLike o g) (sym (else-same n off h free)) (holding.nodes n g (sym (seen-same n (drafted-else n off h)) ∙ s))
+      by (AtBlock f k x) = absurd (block-seen f k g (ap (seen e c) (sym x) ∙ s))
+
+  above-all : (n : Name) (g : Node) → seen e c n ≡ Some g → IsOver made n top → IsLike (new n) g
+  above-all n g s o = let h = over-else n o in holding.nodes n g (sym (seen-same n (drafted-else n h.0 h.1)) ∙ s)
+
+  counts-all : (p q : Name) → IsParent made p q → IsUpFrom made top q → said (made p) ≡ option_map (counted q (count_of (made q))) (said (new p))
+  counts-all p q parent way =
+      let over : IsOver made p top = elim way [ inl x ↦ subst (IsOver made p) x (next p q parent) | inr o ↦ over_through made p q top (next p q parent) o ] in
+      let h = over-else p over in
+      let v = from-made (new p) parent.parent (sym (made-else p h.1) ∙ parent.live) in
+      let live : made p ≡ Some (refilled dir.0 inside v.0) = parent.live ∙ ap Some (sym v.2) in
+      let named = above-named parent.parent parent.child parent.above in
+      let own : node_name v.0 ≡ Some p = sym (refilled_name dir.0 inside v.0) ∙ ap node_name v.2 ∙ named.1 ∙ ap Some (made_is.own p named.0 parent.parent parent.live named.1) in
+      ap said live ∙ refilled_counts made made_is dir.0 inside v.0 p q live own (never_over made made_is p top over) parent way ∙ ap (λ o. option_map (counted q (count_of (made q))) (said o)) (sym v.1)
+
+  hashes-all : (n m : Name) (g : Node) (h : Hash32) → seen e c n ≡ Some g → Holds g m h → IsSettled (held c m) → IsHashOf (old m) h
+  hashes-all n m g h s holds settled = by (place dir before after n)
+    where
+      by : Place dir before after n → IsHashOf (old m) h
+      by (AtDir x) = planted.hashes n m g h (inr x) s holds settled
+      by (AtRow y k x) = planted.hashes n m g h (inl (now-named y n k x)) s holds settled
+      by (AtGone y k x f) = absurd (true≢false (sym (ap is_some (sym (unseen-gone n (gone-seen y n k x f)) ∙ s))))
+      by (AtElse off k) = holding.hashes n m g h (sym (seen-same n (drafted-else n off k)) ∙ s) holds settled
+      by (AtBlock f k x) = absurd (block-seen f k g (ap (seen e c) (sym x) ∙ s))
+
+  -- ---- parents
+
+  pub record Kept (n : Name) : Type 0 where
+    pub elsewhere : IsElsewhere before after n
+    pub node : Node
+    pub at_it : seen d c n ≡ Some node
+    pub parent_is : parent_after e c n ≡ parent_after d c n
+
+  -- what is seen is a row, or was seen and hangs as before
+  seen-place : (n : Name) (g : Node) → seen e c n ≡ Some g → IsRow after n ⊎ Kept n
+  seen-place n g s = by (place dir before after n)
+    where
+      by : Place dir before after n → IsRow after n ⊎ Kept n
+      by (AtDir x) = inr (record {
+        elsewhere = subst (IsElsewhere before after) (sym x) dir-else;
+        node = node.Entry top-was.0;
+        at_it = ap (seen d c) x ∙ top-was.1;
+        parent_is = ap (parent_after e c) x ∙ top-parent ∙ ap (parent_after d c) (sym x);
+      })
+      by (AtRow y k x) = inl (y, k, x)
+      by (AtGone y k x f) = absurd (true≢false (sym (ap is_some (sym (unseen-gone n (gone-seen y n k x f)) ∙ s))))
+      by (AtElse off h) = inr (record { elsewhere = h; node = g; at_it = sym (seen-same n (drafted-else n off h)) ∙ s; parent_is = parent-same n (drafted-else n off h) })
+      by (AtBlock f k x) = absurd (block-seen f k g (ap (seen e c) (sym x) ∙ s))
+
+  row-hung : (n : Name) (g : Node) → seen e c n ≡ Some g → IsRow after n → Hung (seen e c) (parent_after e c) made n
+  row-hung n g s r =
+      let w = now-row r.0 r.1 in
+      subst (Hung (seen e c) (parent_after e c) made) (sym r.2) (hung_at (seen e c) (parent_after e c) made top u (Over r.0 w.less w.more) planted.hang now-stands w.within g (ap (seen e c) (sym r.2) ∙ s))
+
+  parents-all : (n p : Name) (g : Node) → seen e c n ≡ Some g → IsParent made p n → (parent_after e c n ≡ Some p) × IsSome (seen e c p)
+  parents-all n p g s parent = elim (seen-place n g s) [
+    | inl r ↦ (
+      let h = row-hung n g s r in
+      let same : h.from ≡ p = made_is.once n h.from p h.parent parent in
+      (h.over_is ∙ ap Some same, subst (λ m. IsSome (seen e c m)) same h.sees))
+    | inr k ↦ elim (parent-before p n k.elsewhere parent) [
+      | inl q ↦ (let x = holding.parents n p k.node k.at_it q in (k.parent_is ∙ x.0, sees-parent p n parent x.1))
+      | inr q ↦ (let y = hand-row from p n q in (k.parent_is ∙ holding.hangs n p k.node k.at_it q, sees-hand y.0 p y.1 y.2))
+    ]
+  ]
+
+  tied-all : (n p : Name) (g : Node) → seen e c n ≡ Some g → parent_after e c n ≡ Some p → IsParent made p n ⊎ IsBelowHand to p n
+  tied-all n p g s up = elim (seen-place n g s) [
+    | inl r ↦ (let h = row-hung n g s r in inl (subst (λ m. IsParent made m n) (one_of h.from p (sym h.over_is ∙ up)) h.parent))
+    | inr k ↦ elim (holding.tied n p k.node k.at_it (sym k.parent_is ∙ up)) [
+      | inl q ↦ parent-after-all p n k.elsewhere q
+      | inr q ↦ inl (hand-parent p n q)
+    ]
+  ]
+
+  each-in : (P : Row → Type 0) (xs : List Row) (y : Row) → IsIn y xs → Each P xs → P y
+  each-in P [] y h a = absurd h
+  each-in P (x ∷ xs) y (inl h) a = subst P h a.0
+  each-in P (x ∷ xs) y (inr h) a = each-in P xs y h a.1
+
+  hangs-all : (n p : Name) (g : Node) → seen e c n ≡ Some g → IsBelowHand to p n → parent_after e c n ≡ Some p
+  hangs-all n p g s below =
+      let y = hand-row to p n below in
+      let y-in = (moves.went y.0 y.1).0 in
+      let w = was-row y.0 y-in in
+      let parent : IsParent new p n = subst (λ m. IsParent new m n) (sym y.2) (content-parent new y.0 (entries w.less) (entries w.more) n (was-live y.0 w) y.3) in
+      elim (seen-place n g s) [
+        | inl r ↦ elim (row-before r.0 r.1) [
+          | inl b ↦ absurd (each-in (λ z. node_name (below_row y.0.content) ≢ Some (name.Entry (id_of z.id))) before r.0 b
+              (each-in (λ x. Each (λ z. node_name (below_row x.content) ≢ Some (name.Entry (id_of z.id))) before) before y.0 y-in has.apart) (y.3 ∙ ap Some r.2))
+          | inr h ↦ absurd (true≢false (sym (ap is_some (sym (ap new r.2 ∙ hand-none r.0 h) ∙ is.below p n parent.parent parent.child parent.live parent.above parent.named))))
+        ]
+        | inr k ↦ k.parent_is ∙ (holding.parents n p k.node k.at_it parent).0
+      ]
+
+  -- what stands above the directory is seen
+  sees-over : (n m : Name) → IsOver made n m → IsSome (seen e c m) → IsSome (seen e c n)
+  sees-over _ _ (next n m h) s = let g = got (seen e c m) s in (parents-all m n g.0 g.1 h).1
+  sees-over _ _ (far n q m h o) s = let g = got (seen e c m) s in sees-over n q o (parents-all m q g.0 g.1 h).1
+
+  -- ---- what isn't seen
+
+  known-none : (n : Name) → known e c n ≡ Some None → IsSome (seen e c n) → ⊥
+  known-none n k s = true≢false (sym s ∙ ap (λ o. is_some (there_by o)) k)
+
+  known-not : (n : Name) → known e c n ≡ None → IsSome (seen e c n) → ⊥
+  known-not n k s = true≢false (sym s ∙ ap (λ o. is_some (there_by o)) k)
+
+  -- a row of both lists that isn't seen is drafted as before
+  missing-so : (y : Row) (n : Name) → IsIn y before → IsIn y after → n ≡ name.Entry (id_of y.id) → (IsSome (seen e c n) → ⊥) → drafted e n ≡ drafted d n
+  missing-so y n b a x free = by (seen d c n) refl
+    where
+      by : (o : Option Node) → seen d c n ≡ o → drafted e n ≡ drafted d n
+      by None s = planted.missing n (was-named y n b x) (now-named y n a x) s
+      by (Some g) s = absurd (free (planted.kept n (was-named y n b x) (now-named y n a x) (is_there (seen d c n) g s)))
+
+  gone-all : (n : Name) → IsNodeName n → known e c n ≡ Some None → made n ≡ None
+  gone-all n node-name k = by (place dir before after n)
+    where
+      by : Place dir before after n → made n ≡ None
+      by (AtDir x) = absurd (known-none n k (subst (λ m. IsSome (seen e c m)) (sym x) (is_there (seen e c top) top-node top-seen)))
+      by (AtRow y a x) = elim (row-before y a) [
+        | inl b ↦ absurd (
+          let same = missing-so y n b a x (known-none n k) in
+          let none = holding.gone n node-name (sym (known-same n same) ∙ k) in
+          true≢false (sym (ap is_some (sym none ∙ ap new x ∙ was-live y (was-row y b)))))
+        | inr h ↦ absurd (known-none n k (sees-hand y n h x))
+      ]
+      by (AtGone y b x f) = ap made x ∙ gone-none y b f
+      by (AtElse off h) = made-else n h ∙ ap (option_map (refilled dir.0 inside)) (holding.gone n node-name (sym (known-same n (drafted-else n off h)) ∙ k))
+      by (AtBlock f b x) = absurd (subst IsNodeName x node-name)
+
+  away-all : (n : Name) → IsNodeName n → known e c n ≡ None → made n ≡ old n
+  away-all n node-name k = by (place dir before after n)
+    where
+      by : Place dir before after n → made n ≡ old n
+      by (AtDir x) = absurd (known-not n k (subst (λ m. IsSome (seen e c m)) (sym x) (is_there (seen e c top) top-node top-seen)))
+      by (AtRow y a x) = elim (row-before y a) [
+        | inl b ↦ (
+          let same = missing-so y n b a x (known-not n k) in
+          let w = now-row y a in
+          let part = stays_at (seen e c) t u (Over y w.less w.more) planted.stays w.within (ap (seen e c) (sym x) ∙ ap there_by k) in
+          let live = placed_at new t (Over y w.less w.more) was-placed part in
+          ap made x ∙ now-live y w ∙ sym live ∙ ap new (sym x) ∙ holding.away n node-name (sym (known-same n same) ∙ k))
+        | inr h ↦ absurd (known-not n k (sees-hand y n h x))
+      ]
+      by (AtGone y b x f) = absurd (true≢false (sym (ap is_some (sym k ∙ ap (λ o. known_by o (held c n)) (gone-seen y n b x f)))))
+      by (AtElse off h) = else-same n off h (λ o. known-not n k (sees-over n top o (is_there (seen e c top) top-node top-seen))) ∙ holding.away n node-name (sym (known-same n (drafted-else n off h)) ∙ k)
+      by (AtBlock f b x) = absurd (subst IsNodeName x node-name)
+
+  out-by : (h : Option Row) → to ≡ h → IsOut h made
+  out-by None x = tt
+  out-by (Some y) x = let w = moves.went y x in gone-none y w.0 w.1
+
+  all : Lags old new made to top e c
+  all = record {
+    before = holding.before;
+    there = is_there (seen e c top) top-node top-seen;
+    above = above-all;
+    nodes = nodes-all;
+    counts = counts-all;
+    hashes = hashes-all;
+    parents = parents-all;
+    tied = tied-all;
+    hangs = hangs-all;
+    gone = gone-all;
+    away = away-all;
+    resident = planted.resident;
+    out = out-by to refl;
+  }
+
 pub assembled : (old new made : Shown) (from to : Option Row) (key : List ℕ) (dir : FileId) (before after : List Row) (d e : Drafted) (c : Resident)
     → Holding old new from d c → IsTree new → IsTree made → HasRows new key dir before → Rearranges new made key dir before after → Moves before after from to
     → IsSome (seen d c (name.Entry dir)) → Planted old dir (treap (up key) before) (treap (up key) after) d e c → Lags old new made to (name.Entry dir) e c
-assembled old new made from to key dir before after d e c holding is made_is has rearranges moves there planted = ?
+assembled old new made from to key dir before after d e c holding is made_is has rearranges moves there planted = all old new made from to key dir before after d e c holding is made_is has rearranges moves there planted

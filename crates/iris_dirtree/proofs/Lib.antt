@@ -7,6 +7,10 @@ pub mod Stands
 pub mod Searches
 pub mod Blocks
 pub mod Placings
+pub mod Fitting
+pub mod Walks
+pub mod Halving
+pub mod Growth
 pub mod Assembly
 pub mod Sizes
 pub mod Recounts

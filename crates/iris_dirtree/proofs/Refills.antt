@@ -63,13 +63,13 @@ refilled_name i inside (Split file level index low high) = refl
 refilled_name i inside (Stored version bytes) = refl
 
 -- where a directory lies there is an entry
-lies-named : (i : ℕ) (u : Unfolded) → lies i u ≡ true → (m : Name) × (node_name u ≡ Some m)
-lies-named i (Folder id label less more kept) h = (name.Entry (id_of id), refl)
-lies-named i (Leaf id label less more length counter versions) h = (name.Entry (id_of id), refl)
-lies-named i Absent h = absurd (true≢false (sym h))
-lies-named i (Even version) h = absurd (true≢false (sym h))
-lies-named i (Split file level index low high) h = absurd (true≢false (sym h))
-lies-named i (Stored version bytes) h = absurd (true≢false (sym h))
+pub lies_named : (i : ℕ) (u : Unfolded) → lies i u ≡ true → (m : Name) × (node_name u ≡ Some m)
+lies_named i (Folder id label less more kept) h = (name.Entry (id_of id), refl)
+lies_named i (Leaf id label less more length counter versions) h = (name.Entry (id_of id), refl)
+lies_named i Absent h = absurd (true≢false (sym h))
+lies_named i (Even version) h = absurd (true≢false (sym h))
+lies_named i (Split file level index low high) h = absurd (true≢false (sym h))
+lies_named i (Stored version bytes) h = absurd (true≢false (sym h))
 
 module _ (t : Shown) (tree : IsTree t) (i : ℕ) (inside : Unfolded) where
   -- from a child in which the directory lies, up to its parent
@@ -90,7 +90,7 @@ module _ (t : Shown) (tree : IsTree t) (i : ℕ) (inside : Unfolded) where
   lies-below : (w : Unfolded) → Up w → (n : Name) (u : Unfolded) → lies i w ≡ true → t n ≡ Some u → IsAbove u (refilled i inside w) → IsOver t n (name.Entry (id_of i))
   unfolding Up
   lies-below w ih n u h live above =
-      let m = lies-named i w h in
+      let m = lies_named i w h in
       let named = refilled_name i inside w ∙ m.1 in
       step n m.0 u (refilled i inside w) live above named (ih m.0 h m.1 (tree.below n m.0 u (refilled i inside w) live above named))
 

@@ -4,9 +4,11 @@ pub mod Ways
 pub mod Needs
 pub mod Places
 pub mod Planted
+pub mod Nodes
+pub mod Grafts
+pub mod Splits
 pub mod Counts
 pub mod Lags
-pub mod Nodes
 pub mod Found
 pub mod Turns
 pub mod Below

@@ -3,11 +3,14 @@
 
 pub(crate) mod counting;
 pub mod finding;
+mod hashes;
+mod inserting;
 pub mod kinds;
 mod nodes;
 pub mod placing;
 mod removing;
 
 pub use finding::plan_find;
+pub use inserting::plan_insert;
 pub use kinds::is_directory;
 pub use placing::plan_place;

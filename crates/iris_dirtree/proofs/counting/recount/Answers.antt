@@ -1,4 +1,4 @@
-use Rattle.std.proofs.Common.{◌≡◌, ◌<◌, ◌+◌, ◌-◌, ℕ, zero, suc, Some, refl, sym, subst, ap, ◌∙◌, arith, length}
+use Rattle.std.proofs.Common.{◌≡◌, ◌<◌, ◌+◌, ◌-◌, ℕ, suc, subst, arith, length}
 use Rattle.iris_name.specs.declared.name.Name.TheVariants as name
 use Rattle.iris_dirtree.proofs.CountsUp.{Climbing, begins, climbs_on, ends, runs_out}
 use Rattle.iris_dirtree.proofs.counting.recount.Goals as goal
