@@ -27,6 +27,7 @@ use Rattle.iris_dirtree.specs.declared.removing.Crumb.{Crumb}
 use Rattle.iris_dirtree.specs.Descents.{IsAmong, FoundRow}
 use Rattle.iris_dirtree.specs.Hands.{IsRowNode, HoldsTrue}
 use Rattle.iris_dirtree.specs.Needs.{Listed}
+use Rattle.iris_dirtree.specs.Nodes.{OnlyEntries}
 use Rattle.iris_dirtree.specs.Planted.{IsRowName, Planted, topped, with_top}
 use Rattle.iris_dirtree.specs.Rows.{Row, Content, Directory, File, row_id, entry_of, entries, row_entry, up}
 use Rattle.iris_dirtree.specs.Steps.{entry_name, WasHash, Leads, Seated, Outside, Rising}
@@ -61,6 +62,16 @@ frame_apart d e k m h off = by (same_name k m) refl
     by : (b : Bool) → same_name k m ≡ b → drafted e m ≡ drafted d m
     by true g = absurd (off (sym (same_name-true k m g)))
     by false g = h m g
+
+pub made_stays : (d e : Drafted) (c : Resident) (k : Name) (v : Option Change) (m : Name) → IsMade d e k v → m ≢ k → IsSome (seen d c m) → IsSome (seen e c m)
+made_stays d e c k v m h off there = there_same (seen e c m) (seen d c m) (seen_same d e c m (made_apart d e k v m h off)) there
+
+pub only_stays : (d e : Drafted) (c : Resident) (m : Name) → OnlyEntries d e → IsSome (seen d c m) → IsSome (seen e c m)
+only_stays d e c m h there = by (h m)
+  where
+    by : (drafted e m ≡ drafted d m) ⊎ ((id : FileId) × (x : EntryFields) × (p : Option Name) × (m ≡ name.Entry id) × (drafted e m ≡ Some (set_to p (node.Entry x)))) → IsSome (seen e c m)
+    by (inl s) = there_same (seen e c m) (seen d c m) (seen_same d e c m s) there
+    by (inr g) = is_there (seen e c m) (node.Entry g.1) (ap (λ o. there_by (known_by o (held c m))) g.4)
 
 -- a name that is seen is resident, or wasn't live before
 pub seen_resident : (old new : Shown) (d : Drafted) (c : Resident) (n : Name) → Sees old new d c → IsSome (seen d c n) → IsSome (held c n) ⊎ (old n ≡ None)
