@@ -25,3 +25,7 @@ pub mod Begins
 pub mod Withouts
 pub mod Plants
 pub mod Planting
+pub mod Moved
+pub mod Handed
+pub mod Rights
+pub mod Finishing

@@ -14,3 +14,4 @@ pub mod Turns
 pub mod Below
 pub mod Steps
 pub mod Descents
+pub mod Laws
