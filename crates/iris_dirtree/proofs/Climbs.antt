@@ -20,10 +20,10 @@ use Rattle.iris_cache.specs.Drafted.{Drafted, drafted, seen, known_by, there_by,
 use Rattle.iris_cache.specs.Pictures.{Holds, LinkHolds, IsLike, parent_after, parent_by}
 use Rattle.iris_dirtree.specs.declared.removing.Crumb.{Crumb}
 use Rattle.iris_dirtree.specs.Counts.{IsEntryName}
-use Rattle.iris_dirtree.specs.Nodes.{turned, LinksTo}
+use Rattle.iris_dirtree.specs.Nodes.{IsPut, turned, LinksTo}
 use Rattle.iris_dirtree.specs.Planted.{IsWithin}
 use Rattle.iris_dirtree.specs.Rows.{Row, entries, row_entry}
-use Rattle.iris_dirtree.specs.Steps.{Step, over, under, entry_name, above, crumb_above, WasHash, Seat, Seated, Leads, IsCrumb, AreCrumbs, Outside, Once, IsPut, Rising}
+use Rattle.iris_dirtree.specs.Steps.{Step, over, under, entry_name, above, crumb_above, WasHash, Seat, Seated, Leads, IsCrumb, AreCrumbs, Outside, Once, Rising}
 use Rattle.iris_dirtree.proofs.Likes.{like_row}
 use Rattle.iris_dirtree.proofs.Steps.{turned_id, under_more, above_more, turned_like, made_leads, under_blocks, once_over, once_under, outside_over}
 

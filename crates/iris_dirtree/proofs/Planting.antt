@@ -1,5 +1,5 @@
 -- The treap without a row is planted.
-use Rattle.std.proofs.Common.{◌≡◌, ◌≢◌, ◌⊎◌, inl, inr, ℕ, Bool, true, false, cond, List, [], ◌∷◌, Option, Some, None, IsSome, refl, ap, sym, ◌∙◌, subst}
+use Rattle.std.proofs.Common.{◌≡◌, ◌≢◌, ◌⊎◌, ◌+◌, ◌<◌, ◌^◌, inl, inr, ℕ, Bool, true, false, cond, List, [], ◌∷◌, Option, Some, None, IsSome, refl, ap, sym, ◌∙◌, subst, arith}
 use Rattle.iris_name.specs.Names.{same_name}
 use Rattle.iris_name.specs.NameLaws.{same_name-true, same_name-refl}
 use Rattle.iris_name.specs.declared.name.FileId.{FileId}
@@ -14,7 +14,7 @@ use Rattle.iris_node.specs.declared.node.Node.TheVariants as node
 use Rattle.iris_node.specs.Fields.{EntryFields}
 use Rattle.iris_node.specs.Local.{local, entry_local}
 use Rattle.iris_node.specs.Trees.{Shown}
-use Rattle.iris_node.specs.Unfolded.{Unfolded, Absent, id_of}
+use Rattle.iris_node.specs.Unfolded.{Unfolded, Absent, blocks, id_of}
 use Rattle.iris_shape.specs.Order.{Distinct}
 use Rattle.iris_shape.specs.Treap.{Treap, treap, rows, without, Each, Every}
 use Rattle.iris_shape.proofs.Treaps.{every_of, rows_treap}
@@ -29,12 +29,12 @@ use Rattle.iris_dirtree.specs.Hands.{IsRowNode, HoldsTrue}
 use Rattle.iris_dirtree.specs.Needs.{Listed}
 use Rattle.iris_dirtree.specs.Nodes.{OnlyEntries}
 use Rattle.iris_dirtree.specs.Planted.{IsRowName, Planted, topped, with_top}
-use Rattle.iris_dirtree.specs.Rows.{Row, Content, Directory, File, row_id, entry_of, entries, row_entry, up}
+use Rattle.iris_dirtree.specs.Rows.{Row, Content, Directory, File, HasRows, IsCountable, row_id, entry_of, entries, row_entry, up}
 use Rattle.iris_dirtree.specs.Steps.{entry_name, WasHash, Leads, Seated, Outside, Rising}
 use Rattle.iris_dirtree.specs.Ways.{Any, is_named}
 use Rattle.iris_dirtree.proofs.Begins.{Holder, dir_apart}
 use Rattle.iris_dirtree.proofs.Climbs.{seen_same, parent_same, is_there, there_same, seated_same}
-use Rattle.iris_dirtree.proofs.Likes.{like_row}
+use Rattle.iris_dirtree.proofs.Likes.{like_row, roof}
 use Rattle.iris_dirtree.proofs.Plants.{risen, likes_from, hang_from, stays_from, hashes_from}
 use Rattle.iris_dirtree.proofs.Seeks.{any_of}
 use Rattle.iris_dirtree.proofs.Sees.{Sees, sees_drafts}
@@ -232,3 +232,12 @@ module _ (old new : Shown) (key : List ℕ) (dir : FileId) (n : List ℕ) (d : D
         live m v h false true ga gb same touched = let P : Name → Type 0 = λ m. IsSome (seen d c m) in seen_resident old new d c m see (subst P (same_name-true (name.Entry dir) m gb) (is_there (seen d c (name.Entry dir)) (node.Entry hold.entry) hold.is))
         live m v h false false ga gb same (inl s) = see.resident m v (sym s ∙ sym (same m (differ (name.Entry e.id) m ga) (differ (name.Entry dir) m gb)) ∙ h)
         live m v h false false ga gb same (inr s) = seen_resident old new d c m see s
+
+-- counts of what is made have 64 bits
+pub few_inside : (made : Shown) (key : List ℕ) (dir : FileId) (after : List Row) → HasRows made key dir after → IsCountable made → blocks (entries (treap (up key) after)) < 2 ^ 64
+few_inside made key dir after has few =
+    let r = roof made key dir after has in
+    let w = entries (treap (up key) after) in
+    let all = few (name.Entry dir) r.entry r.live in
+    let is : blocks r.entry ≡ blocks r.less + (blocks w + blocks r.more) = ap blocks r.is in
+    omega (arith, all, is)

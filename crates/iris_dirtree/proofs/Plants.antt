@@ -27,9 +27,10 @@ use Rattle.iris_dirtree.specs.declared.removing.Crumb.{Crumb}
 use Rattle.iris_dirtree.specs.Descents.{IsAmong, Ended, FoundRow}
 use Rattle.iris_dirtree.specs.Hands.{IsRowNode, HoldsTrue}
 use Rattle.iris_dirtree.specs.Needs.{Listed}
+use Rattle.iris_dirtree.specs.Nodes.{IsPut}
 use Rattle.iris_dirtree.specs.Planted.{IsRowName, Likes, Hang, IsWithin, Stays, Planted, topped, with_top}
 use Rattle.iris_dirtree.specs.Rows.{Row, Content, Directory, File, row_id, entry_of, entries, row_entry, up}
-use Rattle.iris_dirtree.specs.Steps.{Step, under, entry_name, above, crumb_above, WasHash, Seat, Seated, Leads, AreCrumbs, Outside, Once, IsPut, Rising}
+use Rattle.iris_dirtree.specs.Steps.{Step, under, entry_name, above, crumb_above, WasHash, Seat, Seated, Leads, AreCrumbs, Outside, Once, Rising}
 use Rattle.iris_dirtree.specs.Ways.{Any, is_named}
 use Rattle.iris_dirtree.proofs.Begins.{Holder, dir_apart}
 use Rattle.iris_dirtree.proofs.Climbs.{seen_same, parent_same, put_apart, put_seen, put_parent, put_stays, is_there, there_same, seated_same, crumbs_above, above_seen}

@@ -26,7 +26,7 @@ use Rattle.iris_dirtree.specs.declared.removing.Crumb.{Crumb}
 use Rattle.iris_dirtree.specs.Nodes.{turned, link_blocks, own_blocks, node_blocks, LinksTo}
 use Rattle.iris_dirtree.specs.Planted.{IsWithin}
 use Rattle.iris_dirtree.specs.Rows.{Row, Content, Directory, File, entry_of, entries, row_entry}
-use Rattle.iris_dirtree.specs.Steps.{Step, over, under, entry_name, above, crumb_above, WasHash, Seat, Seated, Leads, IsCrumb, AreCrumbs, AreNamed, Outside, Once, IsPut, Rising}
+use Rattle.iris_dirtree.specs.Steps.{Step, over, under, entry_name, above, crumb_above, WasHash, Seat, Seated, Leads, IsCrumb, AreCrumbs, AreNamed, Outside, Once, Rising}
 use Rattle.iris_dirtree.proofs.Likes.{like_row, like_part, LikeRow}
 
 -- ---- the end of a way

@@ -1,6 +1,5 @@
 -- Ways down a treap of rows, and the crumbs that a plan keeps on them.
 use Rattle.std.specs.Prelude.{◌≡◌, ◌≢◌, ◌≤◌, ◌⊎◌, ℕ, Bool, cond, List, [], ◌∷◌, Option, Some, None, IsSome}
-use Rattle.iris_name.specs.Names.{same_name}
 use Rattle.iris_name.specs.declared.name.FileId.{FileId}
 use Rattle.iris_name.specs.declared.name.Hash32.{Hash32}
 use Rattle.iris_name.specs.declared.name.Name.{Name}
@@ -8,13 +7,12 @@ use Rattle.iris_name.specs.declared.name.Name.TheVariants as name
 use Rattle.iris_node.specs.declared.node.Link.{Link}
 use Rattle.iris_node.specs.declared.node.Node.{Node}
 use Rattle.iris_node.specs.declared.node.Node.TheVariants as node
-use Rattle.iris_node.specs.Fields.{EntryFields}
 use Rattle.iris_node.specs.Local.{led, led_by}
 use Rattle.iris_node.specs.Trees.{Shown}
 use Rattle.iris_node.specs.Unfolded.{Unfolded, id_of}
 use Rattle.iris_shape.specs.Treap.{Treap, Empty, Over, Each, Every}
 use Rattle.iris_cache.specs.Resident.{Resident, held}
-use Rattle.iris_cache.specs.Drafted.{Drafted, drafted, seen, set_to}
+use Rattle.iris_cache.specs.Drafted.{Drafted, drafted, seen}
 use Rattle.iris_cache.specs.Pictures.{Holds, IsHashOf, IsLike, IsSettled, LinkHolds, parent_after}
 use Rattle.iris_dirtree.specs.declared.removing.Crumb.{Crumb}
 use Rattle.iris_dirtree.specs.Planted.{IsWithin}
@@ -100,10 +98,6 @@ Outside n t = Every (λ y. n ≢ entry_name y) t
 abbrev pub Once : Treap Row → Type 0
 Once Empty = Unit {0}
 Once (Over y l m) = Outside (entry_name y) l × Outside (entry_name y) m × Every (λ z. Outside (entry_name z) m) l × Once l × Once m
-
--- what a draft says once an entry is set under a parent
-abbrev pub IsPut : Drafted → Drafted → Option Name → EntryFields → Type 0
-IsPut d e p x = (n : Name) → drafted e n ≡ cond (same_name (name.Entry x.id) n) (Some (set_to p (node.Entry x))) (drafted d n)
 
 -- Of a treap u, the end of a way down is set up in a draft and linked to, and the crumbs of the way are left.
 pub record Rising (old : Shown) (c : Resident) (t : Treap Row) (d e : Drafted) (p : Name) (u : Treap Row) (left : List Crumb) (link : Option Link) : Type 0 where

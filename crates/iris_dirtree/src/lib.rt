@@ -14,5 +14,6 @@ mod removing;
 pub use finding::plan_find;
 pub use inserting::plan_insert;
 pub use kinds::is_directory;
-pub use placing::plan_place;
 pub use laws::{given_up, new_row_in_hand, nothing_in_hand};
+pub use placing::plan_place;
+pub use removing::plan_remove;

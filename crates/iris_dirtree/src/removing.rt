@@ -5,20 +5,21 @@ ghost use Rattle.iris_name.specs.declared.name.Name.{Name as SpecName};
 ghost use Rattle.iris_node.specs.declared.node.Link.{Link as AnyLink};
 ghost use Rattle.iris_node.specs.Fields.{EntryFields};
 ghost use Rattle.iris_node.specs.Rules.{IsLinked};
-ghost use Rattle.iris_node.specs.Trees.{Shown};
+ghost use Rattle.iris_node.specs.Trees.{IsTree, Shown};
 ghost use Rattle.iris_node.specs.Unfolded.{blocks};
 ghost use Rattle.iris_shape.specs.Treap.{Treap, treap, without};
 ghost use Rattle.iris_cache.specs.Drafted.{Drafted, drafted, seen};
 ghost use Rattle.iris_dirtree.specs.Descents.{Seeking, FoundRow, Joining, Ended, IsStop, Seeks, Joins};
-ghost use Rattle.iris_dirtree.specs.Hands.{HoldsTrue, IsRowNode};
+ghost use Rattle.iris_dirtree.specs.Hands.{Holding, HoldsTrue, IsRowNode};
 ghost use Rattle.iris_dirtree.specs.Counts.{IsEntryName};
 ghost use Rattle.iris_dirtree.specs.Needs.{IsDirectory, IsShort, Listed};
-ghost use Rattle.iris_dirtree.specs.Nodes.{LinksTo, turned};
+ghost use Rattle.iris_dirtree.specs.Nodes.{IsPut, LinksTo, between, turned};
 ghost use Rattle.iris_dirtree.specs.Planted.{Planted};
-ghost use Rattle.iris_dirtree.specs.Rows.{Row, arranged, entries, up};
-ghost use Rattle.iris_dirtree.specs.Steps.{AreNamed, Once, Rising, IsPut, crumb_above};
+ghost use Rattle.iris_dirtree.specs.Rows.{IsCountable, Rearranges, Row, arranged, entries, up};
+ghost use Rattle.iris_dirtree.specs.Steps.{AreNamed, Once, Rising, crumb_above};
 ghost use Rattle.iris_dirtree.specs.Ways.{Any, is_named, near_name};
 
+use crate::counting::recount;
 use crate::nodes::{copy_entry, entry_at, is_named, link_to, set_top, side, stands_above, stands_before, top_of, turn};
 use iris_cache::{Cache, Draft, Short};
 use iris_mac::Keys;
@@ -239,6 +240,7 @@ fn unplant(
     requires { IsDirectory draft.old cache.now dir }
     ensures planted { IfOk result (λ e. (old new : Shown) → (x : Row) → (rows : List Row) → Listed keys.now.order dir draft.old cache.now old new rows → Any (λ r. r ≡ x) rows → x.name ≡ name.now
         → blocks (arranged keys.now.order (without (is_named name.now) rows)) < 2 ^ 64 → Planted old dir (treap (up keys.now.order) rows) (treap (up keys.now.order) (without (is_named name.now) rows)) draft.old draft.new cache.now) }
+    ensures there { OnOk result (IsSome (seen draft.old cache.now (Name.Entry dir))) }
     ensures row { IfOk result (λ e. (old new : Shown) → (x : Row) → (rows : List Row) → Listed keys.now.order dir draft.old cache.now old new rows → Any (λ r. r ≡ x) rows → x.name ≡ name.now → IsRowNode x e × HoldsTrue old cache.now e) }
     ensures stays { IfOk result (λ e. (n : SpecName) → IsSome (seen draft.old cache.now n) → (n ≡ Name.Entry e.id → ⊥) → IsSome (seen draft.new cache.now n)) }
     ensures others { OnOk result ((n : SpecName) → (IsEntryName n → ⊥) → drafted draft.new n ≡ drafted draft.old n) }
@@ -252,4 +254,41 @@ fn unplant(
     set_top(alloc, draft, cache, dir, top)?;
     draft.remove(&Name::Entry { id: row.id })?;
     Ok(row)
+}
+
+// An entry without links beside it.
+fn bare(entry: EntryNode) -> EntryNode
+    ensures { result ≡ between None None entry }
+{
+    EntryNode {
+        id: entry.id,
+        name: entry.name,
+        left: None,
+        right: None,
+        body: entry.body,
+    }
+}
+
+/// Takes the row of a name out of a directory, and hands its entry out: the row is in hand then, and what is below it stays. It
+/// reads the rows on the way to the name and from there to its neighbours. Where no row has the name, it answers want of memory.
+/// After an `Err` the draft is given up.
+pub fn plan_remove(
+    alloc: Global,
+    draft: &mut Draft,
+    cache: &Cache,
+    keys: &Keys,
+    dir: FileId,
+    name: &Text,
+) -> Result<EntryNode, Short>
+    requires dir { IsDirectory draft.old cache.now dir }
+    ensures removed { IfOk result (λ e. (old new made : Shown) → (x : Row) → (rows : List Row) → Listed keys.now.order dir draft.old cache.now old new rows → Any (λ r. r ≡ x) rows → x.name ≡ name.now
+        → IsTree made → IsCountable made → Rearranges new made keys.now.order dir rows (without (is_named name.now) rows) → Holding old made (Some x) draft.new cache.now × IsRowNode x e × HoldsTrue old cache.now e) }
+    ensures bare { IfOk result (λ e. (e.left ≡ None) × (e.right ≡ None)) }
+    ensures stays { IfOk result (λ e. (n : SpecName) → IsSome (seen draft.old cache.now n) → (n ≡ Name.Entry e.id → ⊥) → IsSome (seen draft.new cache.now n)) }
+    ensures others { OnOk result ((n : SpecName) → (IsEntryName n → ⊥) → drafted draft.new n ≡ drafted draft.old n) }
+    ensures short { IfErr result (IsShort (Listed keys.now.order dir draft.old cache.now) (near_name name.now keys.now.order) draft.old cache.now dir) }
+{
+    let entry = unplant(alloc, draft, cache, keys, dir, name)?;
+    recount(alloc, draft, cache, dir)?;
+    Ok(bare(entry))
 }

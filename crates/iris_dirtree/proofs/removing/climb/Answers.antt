@@ -2,8 +2,8 @@ use Rattle.std.proofs.Common.{◌≡◌, ◌≤◌, ◌++◌, ◌∷◌, [], Lis
 use Rattle.iris_name.specs.declared.name.FileId.{FileId}
 use Rattle.iris_name.specs.declared.name.Name.TheVariants as name
 use Rattle.iris_dirtree.specs.declared.removing.Crumb.{Crumb}
-use Rattle.iris_dirtree.specs.Nodes.{turned}
-use Rattle.iris_dirtree.specs.Steps.{AreNamed, IsPut, Rising, crumb_above}
+use Rattle.iris_dirtree.specs.Nodes.{IsPut, turned}
+use Rattle.iris_dirtree.specs.Steps.{AreNamed, Rising, crumb_above}
 use Rattle.iris_dirtree.proofs.Climbs.{rising_more, put_stays, put_others}
 use Rattle.iris_dirtree.proofs.Steps.{named_last, turned_id}
 use Rattle.iris_dirtree.proofs.removing.climb.Goals as goal

@@ -16,9 +16,10 @@ use Rattle.iris_cache.specs.Drafted.{Drafted, drafted, seen, taken_away}
 use Rattle.iris_dirtree.specs.declared.removing.Crumb.{Crumb}
 use Rattle.iris_dirtree.specs.Descents.{IsAmong, FoundRow, Joining, Joins, Seeks, met_near, taken}
 use Rattle.iris_dirtree.specs.Needs.{Listed}
+use Rattle.iris_dirtree.specs.Nodes.{IsPut}
 use Rattle.iris_dirtree.specs.Planted.{Planted}
 use Rattle.iris_dirtree.specs.Rows.{Row, arranged, entries, up, row_id}
-use Rattle.iris_dirtree.specs.Steps.{Once, Rising, IsPut, crumb_above}
+use Rattle.iris_dirtree.specs.Steps.{Once, Rising, crumb_above}
 use Rattle.iris_dirtree.specs.Ways.{Any, is_named, near_name}
 use Rattle.iris_dirtree.proofs.Begins.{Holder, holder, seek_start, stop_short}
 use Rattle.iris_dirtree.proofs.Climbs.{is_there}
@@ -106,6 +107,11 @@ returns-clause-planted c = λ old new x all listed x_in x_name few.
     let start = rising_start old q t d c.move_rest.new.draft dir u es c.in_ok-path-2.field-0.end ended once there (moved, c.in_ok-move_rest.ensures.missing, c.in_ok-move_rest.ensures.nothing) in
     let rise = c.in_ok-top-2.ensures.risen old t u d once few there start in
     planted old new key dir n d q all listed x x_in x_name c.in_ok-path.field-0.path.items row f c.climb.new.draft c.set_top.new.draft c.remove.new.self c.in_ok-top-2.top c.in_ok-top.top hold rise c.in_ok-set_top.ensures.entry c.in_ok-set_top.ensures.frame (gone c)
+
+pub returns-clause-there : goal.returns-clause-there
+returns-clause-there c =
+    let hold = holder (seen c.args.draft.now c.args.cache.now (name.Entry c.args.dir)) c.in_ok-top.top c.in_ok-top.ensures.top in
+    is_there (seen c.args.draft.now c.args.cache.now (name.Entry c.args.dir)) (node.Entry hold.entry) hold.is
 
 pub returns-clause-stays : goal.returns-clause-stays
 returns-clause-stays c = λ m h off.
