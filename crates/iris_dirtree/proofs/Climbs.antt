@@ -25,6 +25,7 @@ use Rattle.iris_dirtree.specs.Planted.{IsWithin}
 use Rattle.iris_dirtree.specs.Rows.{Row, entries, row_entry}
 use Rattle.iris_dirtree.specs.Steps.{Step, over, under, entry_name, above, crumb_above, WasHash, Seat, Seated, Leads, IsCrumb, AreCrumbs, Outside, Once, Rising}
 use Rattle.iris_dirtree.proofs.Likes.{like_row}
+use Rattle.iris_dirtree.proofs.Owned.{put_at}
 use Rattle.iris_dirtree.proofs.Steps.{turned_id, under_more, above_more, turned_like, made_leads, under_blocks, once_over, once_under, outside_over}
 
 -- ---- what a draft says
@@ -42,14 +43,11 @@ put_apart d e p x n put off = by (same_name (name.Entry x.id) n) refl
     by true h = absurd (off (sym (same_name-true (name.Entry x.id) n h)))
     by false h = put n ∙ ap (λ b. cond b (Some (set_to p (node.Entry x))) (drafted d n)) h
 
-pub put_here : (d e : Drafted) (p : Option Name) (x : EntryFields) → IsPut d e p x → drafted e (name.Entry x.id) ≡ Some (set_to p (node.Entry x))
-put_here d e p x put = put (name.Entry x.id) ∙ ap (λ b. cond b (Some (set_to p (node.Entry x))) (drafted d (name.Entry x.id))) (same_name-refl (name.Entry x.id))
-
 pub put_seen : (d e : Drafted) (c : Resident) (p : Option Name) (x : EntryFields) → IsPut d e p x → seen e c (name.Entry x.id) ≡ Some (node.Entry x)
-put_seen d e c p x put = ap (λ o. there_by (known_by o (held c (name.Entry x.id)))) (put_here d e p x put)
+put_seen d e c p x put = ap (λ o. there_by (known_by o (held c (name.Entry x.id)))) (put_at d e p x put)
 
 pub put_parent : (d e : Drafted) (c : Resident) (p : Option Name) (x : EntryFields) → IsPut d e p x → parent_after e c (name.Entry x.id) ≡ p
-put_parent d e c p x put = ap (λ o. parent_by o (held c (name.Entry x.id))) (put_here d e p x put)
+put_parent d e c p x put = ap (λ o. parent_by o (held c (name.Entry x.id))) (put_at d e p x put)
 
 pub is_there : (o : Option Node) (x : Node) → o ≡ Some x → IsSome o
 is_there o x e = let P : Option Node → Type 0 = λ o. IsSome o in subst P (sym e) refl

@@ -36,7 +36,7 @@ use Rattle.iris_dirtree.proofs.Begins.{Holder, dir_apart}
 use Rattle.iris_dirtree.proofs.Climbs.{seen_same, parent_same, is_there, there_same, seated_same}
 use Rattle.iris_dirtree.proofs.Likes.{like_row, roof}
 use Rattle.iris_dirtree.proofs.Plants.{risen, likes_from, hang_from, stays_from, hashes_from}
-use Rattle.iris_dirtree.proofs.Seeks.{any_of}
+use Rattle.iris_dirtree.proofs.Rowed.{row_any}
 use Rattle.iris_dirtree.proofs.Sees.{Sees, sees_drafts}
 use Rattle.iris_dirtree.proofs.Withouts.{among_each, gone_one, only, any_without, apart_without, is_it, named_parts, outside_none, outside_not, any_named}
 
@@ -112,7 +112,7 @@ module _ (old new : Shown) (key : List ℕ) (dir : FileId) (n : List ℕ) (d : D
   row_is row among named =
       let A : List Row → Type 0 = IsAmong row in
       let there = subst A (rows_treap (up key) all) among in
-      only (λ r. row ≡ r) (λ r. Rattle.iris_dirtree.specs.Ways.before n r) (is_named n) all x (named_parts n all listed.rows_are.rising) (any_of (λ r. (is_named n r ≡ true) × (row ≡ r)) row all there (named, refl)) x_in (is_it n x x_name)
+      only (λ r. row ≡ r) (λ r. Rattle.iris_dirtree.specs.Ways.before n r) (is_named n) all x (named_parts n all listed.rows_are.rising) (row_any (λ r. (is_named n r ≡ true) × (row ≡ r)) all row there (named, refl)) x_in (is_it n x x_name)
 
   pub row_taken : (t : Treap Row) (kept : List Crumb) (e : EntryFields) → t ≡ treap (up key) all → FoundRow old new c t d (up key) n kept e → IsRowNode x e × HoldsTrue old c e
   row_taken t kept e is found =
@@ -154,7 +154,7 @@ module _ (old new : Shown) (key : List ℕ) (dir : FileId) (n : List ℕ) (d : D
     taken_row : IsRowName (rows (treap (up key) all)) (name.Entry e.id)
     taken_row =
         let P : List Row → Type 0 = λ xs. IsRowName xs (name.Entry e.id) in
-        subst P (sym (rows_treap (up key) all)) (any_of (λ (r : Row). name.Entry e.id ≡ entry_name r) x all x_in taken_id)
+        subst P (sym (rows_treap (up key) all)) (row_any (λ (r : Row). name.Entry e.id ≡ entry_name r) all x x_in taken_id)
 
     -- a row of the first treap that isn't in the second is the one that went
     went_one : (m : Name) → IsRowName (rows (treap (up key) all)) m → (IsRowName (rows (treap (up key) (without (is_named n) all))) m → ⊥) → m ≡ name.Entry e.id
@@ -187,7 +187,7 @@ module _ (old new : Shown) (key : List ℕ) (dir : FileId) (n : List ℕ) (d : D
         let z = hold.entry in
         let dir_seen : seen d4 c p ≡ Some (node.Entry (with_top top z)) = ap (λ o. there_by (known_by o (held c p))) (entry z hold.is) in
         let E : Every (λ r. drafted d4 (entry_name r) ≡ drafted d2 (entry_name r)) u = every_of (λ r. drafted d4 (entry_name r) ≡ drafted d2 (entry_name r)) u (among_each (λ r. drafted d4 (entry_name r) ≡ drafted d2 (entry_name r)) (rows u) (λ r k.
-            let a = any_of (λ (y : Row). entry_name r ≡ entry_name y) r (rows u) k refl in
+            let a = row_any (λ (y : Row). entry_name r ≡ entry_name y) (rows u) r k refl in
             same42 (entry_name r) (not_taken (entry_name r) a) (not_dir (entry_name r) (after_before (entry_name r) a)))) in
         let seated : Seated old c t d4 p u = seated_same old c t d2 d4 p u E (λ h. is_there (seen d4 c p) (node.Entry (with_top top z)) dir_seen) up_.seated in
         let both : (m : Name) → IsRowName (rows t) m → IsRowName (rows u) m → drafted d4 m ≡ drafted d2 m = λ m a b. same42 m (not_taken m b) (not_dir m a) in

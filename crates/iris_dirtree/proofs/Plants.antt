@@ -35,7 +35,6 @@ use Rattle.iris_dirtree.specs.Ways.{Any, is_named}
 use Rattle.iris_dirtree.proofs.Begins.{Holder, dir_apart}
 use Rattle.iris_dirtree.proofs.Climbs.{seen_same, parent_same, put_apart, put_seen, put_parent, put_stays, is_there, there_same, seated_same, crumbs_above, above_seen}
 use Rattle.iris_dirtree.proofs.Likes.{like_row, like_part, leads_over, leads_empty}
-use Rattle.iris_dirtree.proofs.Seeks.{any_of}
 use Rattle.iris_dirtree.proofs.Sees.{Sees, sees_drafts}
 use Rattle.iris_dirtree.proofs.Steps.{once_under}
 use Rattle.iris_dirtree.proofs.Withouts.{any_split, among_each, gone_one, only, any_without, distinct_without, apart_without, is_it, named_parts, once_of, outside_none, outside_not, any_named}

@@ -27,25 +27,11 @@ use Rattle.iris_dirtree.specs.Rows.{Row, entries, row_entry}
 use Rattle.iris_dirtree.specs.Steps.{Step, over, under, entry_name, above, WasHash, Seat, Seated, Leads, IsCrumb, AreCrumbs}
 use Rattle.iris_dirtree.specs.Descents.{IsWantedLink, WantsBelow, Stands, IsAmong, met_near, taken, Seeking, FoundRow, Joining, Ended, IsStop, Seeks, Joins}
 use Rattle.iris_dirtree.specs.Ways.{Any, before, is_named}
+use Rattle.iris_dirtree.proofs.Downs.{any_left, any_right}
 use Rattle.iris_dirtree.proofs.Likes.{like_row, LikeRow, leads_over, leads_empty, Top}
+use Rattle.iris_dirtree.proofs.Rowed.{row_any}
 use Rattle.iris_dirtree.proofs.Steps.{under_more, above_more}
 use Rattle.iris_dirtree.proofs.Climbs.{crumbs_more}
-
--- ---- rows among others
-
-pub any_of : (P : Row → Type 0) (r : Row) (xs : List Row) → IsAmong r xs → P r → Any P xs
-any_of P r [] h p = absurd h
-any_of P r (x ∷ xs) (inl e) p = inl (subst P (sym e) p)
-any_of P r (x ∷ xs) (inr h) p = inr (any_of P r xs h p)
-
-pub any_left : (P : Row → Type 0) (a b : List Row) → Any P a → Any P (a ++ b)
-any_left P [] b h = absurd h
-any_left P (x ∷ a) b (inl e) = inl e
-any_left P (x ∷ a) b (inr h) = inr (any_left P a b h)
-
-pub any_right : (P : Row → Type 0) (a b : List Row) → Any P b → Any P (a ++ b)
-any_right P [] b h = h
-any_right P (x ∷ a) b h = inr (any_right P a b h)
 
 -- ---- one step down
 
@@ -239,7 +225,7 @@ module _ (old new : Shown) (c : Resident) (t : Treap Row) (d : Drafted) where
   stands_wanted q k w met n e missing s among =
       let top = leads_over w k s.leads.led_is in
       let W : Name → Type 0 = λ n. IsWanted old new c n (Hash k.hash) in
-      (any_of (λ (r : Row). n ≡ entry_name r) top.row met (among top.row top.less top.more top.is) (e ∙ ap name.Entry top.id_is), subst W (sym e) (s.wanted (ap (known d c) (sym e) ∙ missing)))
+      (row_any (λ (r : Row). n ≡ entry_name r) met top.row (among top.row top.less top.more top.is) (e ∙ ap name.Entry top.id_is), subst W (sym e) (s.wanted (ap (known d c) (sym e) ∙ missing)))
 
 -- why a plan stops on its way to a row
 pub seek_stop : (c : Resident) (d : Drafted) (n : List ℕ) (top : Option Link) (es : List Crumb) (k : Link) (e : Short)

@@ -27,6 +27,7 @@ use Rattle.iris_dirtree.specs.Nodes.{turned, link_blocks, own_blocks, node_block
 use Rattle.iris_dirtree.specs.Planted.{IsWithin}
 use Rattle.iris_dirtree.specs.Rows.{Row, Content, Directory, File, entry_of, entries, row_entry}
 use Rattle.iris_dirtree.specs.Steps.{Step, over, under, entry_name, above, crumb_above, WasHash, Seat, Seated, Leads, IsCrumb, AreCrumbs, AreNamed, Outside, Once, Rising}
+use Rattle.iris_dirtree.proofs.Blocks.{like_blocks}
 use Rattle.iris_dirtree.proofs.Likes.{like_row, like_part, LikeRow}
 
 -- ---- the end of a way
@@ -62,29 +63,6 @@ named_last (f ∷ es) e h = let r = named_last es e h.1 in ((h.0, r.0), r.1)
 
 -- ---- a node with a turned link
 
--- the blocks of what a link leads to
-pub led_blocks : (l : Option Link) (u : Unfolded) → led_by l ≡ led u → link_blocks l ≡ blocks u
-led_blocks None Absent h = refl
-led_blocks None (Even v) h = refl
-led_blocks None (Split f k i a b) h = refl
-led_blocks None (Stored v bytes) h = refl
-led_blocks None (Folder id label less more inside) h = cc
-led_blocks None (Leaf id label less more size counter versions) h = cc
-led_blocks (Some k) Absent h = cc
-led_blocks (Some k) (Even v) h = cc
-led_blocks (Some k) (Split f l i a b) h = cc
-led_blocks (Some k) (Stored v bytes) h = cc
-led_blocks (Some k) (Folder id label less more inside) h = ap (λ o. lead_blocks o) h
-  where
-    lead_blocks : Option Lead → ℕ
-    lead_blocks None = 0
-    lead_blocks (Some l) = l.blocks
-led_blocks (Some k) (Leaf id label less more size counter versions) h = ap (λ o. lead_blocks o) h
-  where
-    lead_blocks : Option Lead → ℕ
-    lead_blocks None = 0
-    lead_blocks (Some l) = l.blocks
-
 turn_by : (right : Bool) (id : ℕ) (label : List ℕ) (c : Content) (l m v w : Unfolded) (e : EntryFields) (b : Body) (k : Option Link)
     → local (entry_of id label c l m) ≡ Some (entry_local e b) → led_by k ≡ led w → cond right l m ≡ v
     → local (entry_of id label c (cond right v w) (cond right w v)) ≡ Some (entry_local (turned right k e) b)
@@ -110,29 +88,6 @@ turned_like x v w e k h i = by x.right h
     by true g = turn_by true x.row.id x.row.name x.row.content (entries x.other) (entries v) (entries x.other) (entries w) e e.body k g i refl
     by false g = turn_by false x.row.id x.row.name x.row.content (entries v) (entries x.other) (entries x.other) (entries w) e e.body k g i refl
 
-blocks_by : (id : ℕ) (label : List ℕ) (c : Content) (l m : Unfolded) (e : EntryFields) (b : Body) → local (entry_of id label c l m) ≡ Some (entry_local e b)
-    → link_blocks e.left + (own_blocks b + link_blocks e.right) ≡ blocks (entry_of id label c l m)
-blocks_by id label (Directory inside) l m e (Dir top) h =
-    let a : led_by e.left ≡ led l = cc in
-    let b : led_by e.right ≡ led m = cc in
-    let t : led_by top ≡ led inside = cc in
-    let x = led_blocks e.left l a in
-    let y = led_blocks e.right m b in
-    let z = led_blocks top inside t in
-    omega (arith, x, y, z)
-blocks_by id label (Directory inside) l m e (FileBody size counter versions) h = cc
-blocks_by id label (File s n v) l m e (Dir top) h = cc
-blocks_by id label (File s n v) l m e (FileBody size counter versions) h =
-    let a : led_by e.left ≡ led l = cc in
-    let b : led_by e.right ≡ led m = cc in
-    let t : size ≡ s = cc in
-    let x = led_blocks e.left l a in
-    let y = led_blocks e.right m b in
-    omega (arith, x, y, t)
-
-pub like_blocks : (y : Row) (l m : Unfolded) (e : EntryFields) → IsLike (Some (row_entry y l m)) (node.Entry e) → node_blocks e ≡ blocks (row_entry y l m)
-like_blocks y l m e h = blocks_by y.id y.name y.content l m e e.body h
-
 led_some : (id : ℕ) (label : List ℕ) (c : Content) (l m : Unfolded) → led (entry_of id label c l m) ≡ Some (record { id = id; blocks = blocks (entry_of id label c l m) })
 led_some id label (Directory inside) l m = refl
 led_some id label (File size counter versions) l m = refl
@@ -140,7 +95,7 @@ led_some id label (File size counter versions) l m = refl
 -- a link made to a node that is like a row's entry leads there
 pub made_leads : (y : Row) (l m : Unfolded) (e : EntryFields) (h : Hash32) (k : Link) → IsLike (Some (row_entry y l m)) (node.Entry e) → blocks (row_entry y l m) < 2 ^ 64 → LinksTo e h k → led_by (Some k) ≡ led (row_entry y l m)
 made_leads y l m e h k like few to =
-    let b = like_blocks y l m e like in
+    let b = like_blocks (row_entry y l m) e e.body like in
     let i = like_row y l m e like in
     let n : k.blocks ≡ blocks (row_entry y l m) = to.blocks (subst (λ n. n < 2 ^ 64) (sym b) few) ∙ b in
     let j : k.id.0 ≡ y.id = ap (λ (f : FileId). f.0) to.id ∙ i.id_is in

@@ -14,6 +14,7 @@ use Rattle.iris_dirtree.specs.Rows.{Row, row_id, row_name, up}
 use Rattle.iris_dirtree.specs.Steps.{entry_name, Outside, Once}
 use Rattle.iris_dirtree.specs.Ways.{Any, before, is_named}
 use Rattle.iris_dirtree.proofs.Downs.{each_map, less_same}
+use Rattle.iris_dirtree.proofs.Moved.{each_in}
 
 -- ---- rows of a list
 
@@ -21,11 +22,6 @@ pub any_split : (P : Row → Type 0) (a b : List Row) → Any P (a ++ b) → Any
 any_split P [] b h = inr h
 any_split P (x ∷ a) b (inl h) = inl (inl h)
 any_split P (x ∷ a) b (inr h) = elim (any_split P a b h) [ inl g ↦ inl (inr g) | inr g ↦ inr g ]
-
-pub each_among : (P : Row → Type 0) (xs : List Row) (x : Row) → Each P xs → IsAmong x xs → P x
-each_among P [] x h k = absurd k
-each_among P (y ∷ ys) x h (inl e) = subst P e h.0
-each_among P (y ∷ ys) x h (inr k) = each_among P ys x h.1 k
 
 pub among_each : (P : Row → Type 0) (xs : List Row) → ((z : Row) → IsAmong z xs → P z) → Each P xs
 among_each P [] f = tt
@@ -73,7 +69,7 @@ only P p e (y ∷ ys) x h (inl a) (inr k) t = by (p y) refl
   where
     by : (b : Bool) → p y ≡ b → P x
     by true q = absurd (both_ways (e y) (h.0 q) a.0)
-    by false q = absurd (both_ways (e x) (each_among (λ z. e z ≡ false) ys x (h.1 q) k) t)
+    by false q = absurd (both_ways (e x) (each_in (λ z. e z ≡ false) ys x k (h.1 q)) t)
 only P p e (y ∷ ys) x h (inr a) (inl i) t = by (p y) refl
   where
     by : (b : Bool) → p y ≡ b → P x
@@ -91,7 +87,7 @@ apart_without e (y ∷ ys) x h (inl i) t a =
 apart_without e (y ∷ ys) x h (inr k) t a = (elim (e y) as (λ b. Any (λ (r : Row). r.id ≡ x.id) (cond b (without e ys) (y ∷ without e ys)) → ⊥) [ true ↦ (λ g. apart_without e ys x h.1 k t g) | false ↦ (λ g. first (λ j. apart_without e ys x h.1 k t j) g) ]) a
   where
     first : (Any (λ (r : Row). r.id ≡ x.id) (without e ys) → ⊥) → Any (λ (r : Row). r.id ≡ x.id) (y ∷ without e ys) → ⊥
-    first f (inl g) = each_among (λ z. y.id ≢ z.id) ys x h.0 k g
+    first f (inl g) = each_in (λ z. y.id ≢ z.id) ys x k h.0 g
     first f (inr g) = f g
 
 -- ---- names

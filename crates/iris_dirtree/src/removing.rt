@@ -20,6 +20,7 @@ ghost use Rattle.iris_dirtree.specs.Steps.{AreNamed, Once, Rising, crumb_above};
 ghost use Rattle.iris_dirtree.specs.Ways.{Any, is_named, near_name};
 
 use crate::counting::recount;
+use crate::finding::longest_way;
 use crate::nodes::{copy_entry, entry_at, is_named, link_to, set_top, side, stands_above, stands_before, top_of, turn};
 use iris_cache::{Cache, Draft, Short};
 use iris_mac::Keys;
@@ -49,11 +50,6 @@ struct Met {
     end: Option<Link>,
 }
 
-// How many names are known: no way of seen entries is longer.
-fn most_seen(draft: &Draft, cache: &Cache) -> u64 {
-    u64::from(draft.count()) + u64::from(cache.count())
-}
-
 fn keep(path: &mut Vec<Crumb>, node: EntryNode, right: bool, hash: Hash32) -> Result<(), NoMemory>
     ensures { OnOk result (path.new.items ≡ path.old.items ++ record { node = node; right = right; hash = hash } ∷ []) }
 {
@@ -76,7 +72,7 @@ fn find_row(
 {
     let mut path = Vec::new(alloc);
     let mut at = top;
-    for step in 0..most_seen(draft, cache) {
+    for step in 0..longest_way(draft, cache) {
         let Some(link) = at else {
             return Err(Short::NoMemory);
         };
@@ -134,7 +130,7 @@ fn join_sides(
     let mut path = path;
     let mut less = row.left;
     let mut more = row.right;
-    for step in 0..most_seen(draft, cache) {
+    for step in 0..longest_way(draft, cache) {
         let Some(x) = less else {
             return Ok(Met { path, end: more });
         };

@@ -1,4 +1,4 @@
-use Rattle.std.proofs.Common.{◌≡◌, ◌<◌, ◌^◌, IsSome, ℕ, vec_len}
+use Rattle.std.proofs.Common.{◌≡◌, ◌<◌, ◌^◌, IsSome, vec_len}
 use Rattle.iris_name.specs.declared.name.Name.{Name}
 use Rattle.iris_name.specs.declared.name.Name.TheVariants as name
 use Rattle.iris_node.specs.Rules.{IsLinked}

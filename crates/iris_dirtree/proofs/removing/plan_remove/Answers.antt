@@ -1,17 +1,11 @@
-use Rattle.std.proofs.Common.{◌≡◌, List, Option, Some, None, IsSome, ℕ, refl, ap, sym, ◌∙◌, subst}
-use Rattle.iris_name.specs.declared.name.Name.TheVariants as name
-use Rattle.iris_node.specs.declared.node.Body.{Body}
-use Rattle.iris_node.specs.declared.node.Node.TheVariants as node
+use Rattle.std.proofs.Common.{◌≡◌, List, None, ℕ, sym, subst}
 use Rattle.iris_node.specs.Fields.{EntryFields}
-use Rattle.iris_node.specs.Trees.{Shown}
 use Rattle.iris_shape.specs.Treap.{treap, without}
-use Rattle.iris_cache.specs.Drafted.{seen}
 use Rattle.iris_dirtree.specs.Hands.{IsRowNode, HoldsTrue}
 use Rattle.iris_dirtree.specs.Nodes.{between}
 use Rattle.iris_dirtree.specs.Planted.{Planted}
-use Rattle.iris_dirtree.specs.Rows.{Row, Rearranges, arranged, entries, up}
+use Rattle.iris_dirtree.specs.Rows.{Rearranges, arranged, up}
 use Rattle.iris_dirtree.specs.Ways.{is_named}
-use Rattle.iris_dirtree.proofs.Climbs.{is_there}
 use Rattle.iris_dirtree.proofs.Finishing.{removed}
 use Rattle.iris_dirtree.proofs.Planting.{few_inside}
 use Rattle.iris_dirtree.proofs.removing.plan_remove.Goals as goal

@@ -1,27 +1,22 @@
-use Rattle.std.proofs.Common.{◌≡◌, ◌<◌, ◌^◌, ◌∷◌, ◌⊎◌, inl, inr, [], List, Option, Some, None, IsSome, ℕ, refl, ap, sym, ◌∙◌, subst}
+use Rattle.std.proofs.Common.{◌≡◌, List, Some, refl, ap, sym, ◌∙◌, subst}
 use Rattle.std.proofs.lemmas.Result.{err_from_is_err_and}
-use Rattle.iris_name.specs.Names.{same_name}
 use Rattle.iris_name.specs.declared.name.FileId.{FileId}
-use Rattle.iris_name.specs.declared.name.Name.{Name}
 use Rattle.iris_name.specs.declared.name.Name.TheVariants as name
 use Rattle.iris_node.specs.declared.node.Link.{Link}
 use Rattle.iris_node.specs.declared.node.Node.TheVariants as node
 use Rattle.iris_node.specs.Fields.{EntryFields}
 use Rattle.iris_node.specs.Trees.{Shown}
-use Rattle.iris_node.specs.Unfolded.{blocks}
-use Rattle.iris_shape.specs.Treap.{Treap, treap, without, rows}
+use Rattle.iris_shape.specs.Treap.{treap, without}
 use Rattle.iris_shape.specs.Order.{Distinct}
 use Rattle.iris_shape.proofs.Treaps.{rows_treap}
-use Rattle.iris_cache.specs.Drafted.{Drafted, drafted, seen, taken_away}
-use Rattle.iris_dirtree.specs.declared.removing.Crumb.{Crumb}
-use Rattle.iris_dirtree.specs.Descents.{IsAmong, FoundRow, Joining, Joins, Seeks, met_near, taken}
+use Rattle.iris_cache.specs.Drafted.{seen, taken_away}
+use Rattle.iris_dirtree.specs.Descents.{FoundRow, Joins, Seeks, met_near, taken}
 use Rattle.iris_dirtree.specs.Needs.{Listed}
 use Rattle.iris_dirtree.specs.Nodes.{IsPut}
-use Rattle.iris_dirtree.specs.Planted.{Planted}
-use Rattle.iris_dirtree.specs.Rows.{Row, arranged, entries, up, row_id}
-use Rattle.iris_dirtree.specs.Steps.{Once, Rising, crumb_above}
-use Rattle.iris_dirtree.specs.Ways.{Any, is_named, near_name}
-use Rattle.iris_dirtree.proofs.Begins.{Holder, holder, seek_start, stop_short}
+use Rattle.iris_dirtree.specs.Rows.{Row, arranged, up, row_id}
+use Rattle.iris_dirtree.specs.Steps.{crumb_above}
+use Rattle.iris_dirtree.specs.Ways.{is_named, near_name}
+use Rattle.iris_dirtree.proofs.Begins.{holder, seek_start, stop_short}
 use Rattle.iris_dirtree.proofs.Climbs.{is_there}
 use Rattle.iris_dirtree.proofs.Seeks.{found_joining}
 use Rattle.iris_dirtree.proofs.Sees.{sees_drafts}
