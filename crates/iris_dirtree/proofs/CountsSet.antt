@@ -13,7 +13,8 @@ use Rattle.iris_cache.specs.Resident.{Resident, held}
 use Rattle.iris_cache.specs.Drafted.{Drafted, drafted, seen, known_by, there_by, set_to}
 use Rattle.iris_cache.specs.Pictures.{parent_after, parent_by}
 use Rattle.iris_dirtree.specs.Counts.{said_count, counted_entry, counted_node, IsEntryName, Recounts}
-use Rattle.iris_dirtree.proofs.Owned.{IsPut, put_at, put_off}
+use Rattle.iris_dirtree.specs.Nodes.{IsPut}
+use Rattle.iris_dirtree.proofs.Owned.{put_at, put_off}
 use Rattle.iris_dirtree.proofs.Recounts.{is_there, one_of}
 
 module _ (d e : Drafted) (c : Resident) (child p : Name) (k : Node) (x w : EntryFields) (blocks : ℕ) (above : Option Name)

@@ -141,7 +141,7 @@ pub record Top (w : Treap Row) (i : FileId) : Type 0 where
   pub is : w ≡ Over row less more
   pub id_is : i ≡ id_of row.id
 
-abbrev lead_id : Option Lead → ℕ → ℕ
+abbrev pub lead_id : Option Lead → ℕ → ℕ
 lead_id None k = k
 lead_id (Some l) k = l.id
 

@@ -4,6 +4,7 @@ use Rattle.iris_name.specs.Names.{same_name}
 use Rattle.iris_name.specs.NameLaws.{same_name-refl}
 use Rattle.iris_node.specs.declared.node.Link.{Link}
 use Rattle.iris_cache.specs.Pictures.{parent_after}
+use Rattle.iris_dirtree.specs.Nodes.{IsPut}
 use Rattle.iris_dirtree.specs.Planted.{with_top}
 use Rattle.iris_name.specs.declared.name.FileId.{FileId}
 use Rattle.iris_name.specs.declared.name.Name.{Name}
@@ -33,10 +34,6 @@ entry_id (name.Block f p) = f
 pub entry_own : (d : Drafted) (c : Resident) (id : FileId) (e : EntryFields) → IsDraft d → IsSound c → seen d c (name.Entry id) ≡ Some (node.Entry e) → e.id ≡ id
 unfolding entry_id
 entry_own d c id e ds cs at = ap entry_id (seen_own d c (name.Entry id) (node.Entry e) ds cs at)
-
--- what a draft says once an entry is set under a parent
-abbrev pub IsPut : Drafted → Drafted → Option Name → EntryFields → Type 0
-IsPut d e p x = (n : Name) → drafted e n ≡ cond (same_name (name.Entry x.id) n) (Some (set_to p (node.Entry x))) (drafted d n)
 
 pub put_at : (d e : Drafted) (p : Option Name) (x : EntryFields) → IsPut d e p x → drafted e (name.Entry x.id) ≡ Some (set_to p (node.Entry x))
 put_at d e p x set = set (name.Entry x.id) ∙ ap (λ b. cond b (Some (set_to p (node.Entry x))) (drafted d (name.Entry x.id))) (same_name-refl (name.Entry x.id))

@@ -5,6 +5,13 @@ pub mod Needs
 pub mod Places
 pub mod Planted
 pub mod Nodes
+pub mod Grafts
+pub mod Splits
 pub mod Counts
 pub mod Lags
+pub mod Found
+pub mod Turns
+pub mod Below
+pub mod Steps
+pub mod Descents
 pub mod Laws

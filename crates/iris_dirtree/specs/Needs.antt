@@ -15,6 +15,7 @@ use Rattle.iris_cache.specs.declared.held.Short.TheVariants.{Need, NoMemory}
 use Rattle.iris_cache.specs.Resident.{Resident, held}
 use Rattle.iris_cache.specs.Drafted.{Drafted, drafted, seen}
 use Rattle.iris_cache.specs.Needs.{IsExpected}
+use Rattle.iris_cache.specs.Laws.{AreFormed}
 use Rattle.iris_cache.specs.Pictures.{Drafts}
 use Rattle.iris_dirtree.specs.Rows.{Row, HasRows, IsRooted, IsRootName}
 use Rattle.iris_dirtree.specs.Hands.{Holding}
@@ -44,6 +45,7 @@ pub record Listed (key : List ℕ) (dir : FileId) (d : Drafted) (c : Resident) (
 pub record ListedInHand (key : List ℕ) (dir : FileId) (x : Row) (d : Drafted) (c : Resident) (old new : Shown) (rows : List Row) : Type 0 where
   pub was : IsTree old
   pub rooted : IsRooted old
+  pub formed : AreFormed old
   pub is : IsTree new
   pub hand : Holding old new (Some x) d c
   pub rows_are : HasRows new key dir rows

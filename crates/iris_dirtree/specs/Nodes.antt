@@ -1,7 +1,9 @@
 -- Words on the nodes of a directory's rows.
-use Rattle.std.specs.Prelude.{◌≡◌, ◌<◌, ◌+◌, ◌/◌, ◌^◌, ℕ, Bool, true, false, Option, Some, None}
+use Rattle.std.specs.Prelude.{◌≡◌, ◌⊎◌, ◌<◌, ◌+◌, ◌/◌, ◌^◌, ℕ, Bool, true, false, Option, Some, None, if◌then◌else◌}
+use Rattle.iris_name.specs.Names.{same_name}
 use Rattle.iris_name.specs.declared.name.FileId.{FileId}
 use Rattle.iris_name.specs.declared.name.Hash32.{Hash32}
+use Rattle.iris_name.specs.declared.name.Name.{Name}
 use Rattle.iris_name.specs.declared.name.Name.TheVariants as name
 use Rattle.iris_name.specs.declared.note.Expect.TheVariants.{Hash}
 use Rattle.iris_node.specs.declared.node.Body.{Body}
@@ -13,7 +15,8 @@ use Rattle.iris_node.specs.Fields.{EntryFields}
 use Rattle.iris_cache.specs.declared.held.Short.{Short}
 use Rattle.iris_cache.specs.declared.held.Short.TheVariants.{Need, NoMemory}
 use Rattle.iris_cache.specs.Resident.{Resident}
-use Rattle.iris_cache.specs.Drafted.{Drafted, known}
+use Rattle.iris_cache.specs.Pictures.{Holds}
+use Rattle.iris_cache.specs.Drafted.{Drafted, drafted, known, set_to}
 
 -- the link to the entries of greater names, or to those of lesser ones
 abbrev pub toward : Bool → EntryFields → Option Link
@@ -68,3 +71,20 @@ IsLinkLack d c l NoMemory = Unit {0}
 abbrev pub IsTopLack : Drafted → Resident → FileId → Short → Type 0
 IsTopLack d c dir (Need n x) = (n ≡ name.Entry dir) × (dir.0 < 2) × (known d c n ≡ None)
 IsTopLack d c dir NoMemory = Unit {0}
+
+-- a draft in which an entry is set under a parent
+abbrev pub IsPut : Drafted → Drafted → Option Name → EntryFields → Type 0
+IsPut d e p x = (n : Name) → drafted e n ≡ (if same_name (name.Entry x.id) n then Some (set_to p (node.Entry x)) else drafted d n)
+
+-- only entries are set, and what is set is seen
+abbrev pub OnlyEntries : Drafted → Drafted → Type 0
+OnlyEntries d e = (n : Name) → (drafted e n ≡ drafted d n) ⊎ ((id : FileId) × (x : EntryFields) × (p : Option Name) × (n ≡ name.Entry id) × (drafted e n ≡ Some (set_to p (node.Entry x))))
+
+-- the link holds a hash of what holds one, and where there is none nothing does
+abbrev pub IsLinkOf : (Hash32 → Type 0) → Option Link → Type 0
+IsLinkOf holds None = (x : Hash32) → holds x → ⊥
+IsLinkOf holds (Some l) = holds l.hash
+
+-- the link by which a node holds a hash of an entry, if it does
+abbrev pub IsLinkIn : Node → FileId → Option Link → Type 0
+IsLinkIn k i l = IsLinkOf (Holds k (name.Entry i)) l

@@ -2,9 +2,18 @@
 #![tactic(auto)]
 
 pub(crate) mod counting;
+pub mod finding;
+mod hashes;
+mod inserting;
 pub mod kinds;
 pub mod laws;
 mod nodes;
+pub mod placing;
+mod removing;
 
+pub use finding::plan_find;
+pub use inserting::plan_insert;
 pub use kinds::is_directory;
 pub use laws::{given_up, new_row_in_hand, nothing_in_hand};
+pub use placing::plan_place;
+pub use removing::plan_remove;

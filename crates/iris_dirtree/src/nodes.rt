@@ -10,7 +10,7 @@ ghost use Rattle.iris_shape.specs.Order.{less_name, outranks, beats};
 ghost use Rattle.iris_cache.specs.Drafted.{drafted, seen, set_to};
 ghost use Rattle.iris_cache.specs.Pictures.{parent_after};
 ghost use Rattle.iris_dirtree.specs.Needs.{IsDirectory};
-ghost use Rattle.iris_dirtree.specs.Nodes.{toward, turned, between, link_blocks, own_blocks, node_blocks, LinksTo, dir_top, IsLinkLack, IsTopLack};
+ghost use Rattle.iris_dirtree.specs.Nodes.{toward, turned, between, link_blocks, own_blocks, node_blocks, LinksTo, dir_top, IsLinkLack, IsTopLack, OnlyEntries};
 ghost use Rattle.iris_dirtree.specs.Planted.{topped, with_top};
 
 use iris_cache::{Cache, Draft, Short};
@@ -245,6 +245,7 @@ pub(crate) fn set_top(
     requires { IsLinked top }
     ensures entry { OnOk result ((e : EntryFields) → seen draft.old cache.now (Name.Entry dir) ≡ Some (Node.Entry e) → drafted draft.new (Name.Entry dir) ≡ Some (set_to (parent_after draft.old cache.now (Name.Entry dir)) (Node.Entry (with_top top e)))) }
     ensures frame { OnOk result ((n : SpecName) → same_name (Name.Entry dir) n ≡ false → drafted draft.new n ≡ drafted draft.old n) }
+    ensures entries { OnOk result (OnlyEntries draft.old draft.new) }
 {
     draft.sound();
     cache.sound();

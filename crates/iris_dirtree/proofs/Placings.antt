@@ -1,0 +1,140 @@
+-- The way down from a root to the block at a place of the walk.
+use Rattle.std.proofs.Common.{◌≡◌, ◌+◌, ◌<◌, ◌≤◌, ◌++◌, inl, inr, ◌⊎◌, ℕ, suc, List, [], ◌∷◌, Bool, true, false, Option, Some, None, IsSome, MatchOption, refl, ap, sym, ◌∙◌, subst, arith, length}
+use Rattle.std.specs.Prelude.{slice_get}
+use Rattle.iris_name.specs.declared.name.FileId.{FileId}
+use Rattle.iris_name.specs.declared.name.Hash32.{Hash32}
+use Rattle.iris_name.specs.declared.name.Name.{Name}
+use Rattle.iris_name.specs.declared.name.Name.TheVariants as name
+use Rattle.iris_name.specs.declared.note.Expect.TheVariants.{Hash}
+use Rattle.iris_node.specs.declared.node.Link.{Link}
+use Rattle.iris_node.specs.declared.node.Node.{Node}
+use Rattle.iris_node.specs.declared.node.Node.TheVariants as node
+use Rattle.iris_node.specs.Fields.{EntryFields, PartFields}
+use Rattle.iris_node.specs.Local.{Local, SplitAt, led, led_by, local, local_of, entry_local}
+use Rattle.iris_node.specs.Trees.{Shown, IsTree, node_name}
+use Rattle.iris_node.specs.Unfolded.{Unfolded, Absent, Folder, Leaf, Even, Split, Stored, id_of, blocks}
+use Rattle.iris_node.specs.Walk.{walk}
+use Rattle.iris_node.proofs.Walking.{counted}
+use Rattle.iris_cache.specs.declared.held.Short.{Short}
+use Rattle.iris_cache.specs.declared.held.Short.TheVariants.{Need, NoMemory}
+use Rattle.iris_cache.specs.Resident.{Resident}
+use Rattle.iris_cache.specs.Drafted.{Drafted, seen, known, there_by}
+use Rattle.iris_cache.specs.Pictures.{IsLike}
+use Rattle.iris_cache.proofs.Children.{live-name}
+use Rattle.iris_cache.proofs.Lacking.{unknown}
+use Rattle.iris_dirtree.specs.Needs.{IsWanted}
+use Rattle.iris_dirtree.specs.Nodes.{node_blocks}
+use Rattle.iris_dirtree.specs.Places.{down_to, Rooted, whole_walk, way_to, IsOnWay, IsPlaceLack, LacksPlace}
+use Rattle.iris_dirtree.specs.Turns.{IsTurn, block_found}
+use Rattle.iris_dirtree.specs.Ways.{Any}
+use Rattle.iris_dirtree.specs.Below.{RootIs, IsBelow, LacksBelow, IsBelowLack}
+use Rattle.iris_dirtree.specs.Found.{entry_in}
+use Rattle.iris_dirtree.specs.declared.placing.Turn.TheVariants.{Own, Under}
+use Rattle.iris_dirtree.proofs.Sees.{Sees, sees_drafts, root_wanted}
+use Rattle.iris_dirtree.proofs.Pasts.{Past, past_bound, size}
+use Rattle.iris_dirtree.proofs.Stands.{Stand, Way, way_down, is_entry, root_name, led_named}
+use Rattle.iris_dirtree.proofs.Blocks.{Turned, turned, turned_own, walk_none, like_blocks, get_left, get_right}
+
+-- how far the way down to a block has come: the block lies at a place of the walk under a link
+pub record Sunk (root : FileId) (old new : Shown) (d : Drafted) (c : Resident) (top : Unfolded) (at : ℕ) (l : Link) (place k : ℕ) : Type 0 where
+  pub under : Unfolded
+  pub stand : Stand old new d c under l
+  pub past : Past new (seen d c) k (size under)
+  pub same : slice_get (walk under) place ≡ slice_get (walk top) at
+  pub on : IsBelow root at top (name.Entry l.id)
+  pub met : (n : Name) → Any (λ i. n ≡ name.Entry (id_of i)) (down_to place under) → Any (λ i. n ≡ name.Entry (id_of i)) (down_to at top)
+
+-- what stands under an entry's name is no part
+part_apart : (u : Unfolded) (id : FileId) (p : PartFields) → node_name u ≡ Some (name.Entry id) → local u ≡ Some (local_of (node.Part p)) → ⊥
+part_apart (Folder i label less more inside) id p named h = cc
+part_apart (Leaf i label less more size counter versions) id p named h = cc
+part_apart (Split f l i low high) id p named h = cc
+part_apart Absent id p named h = cc
+part_apart (Even v) id p named h = cc
+part_apart (Stored v bytes) id p named h = cc
+
+not_seen_by : (id : FileId) (t : Option Unfolded) (u : Unfolded) (o : Option (Option Node)) → t ≡ Some u → IsSome o → None ≡ entry_in (there_by o) → (o ≡ Some None → t ≡ None) → ((p : PartFields) → there_by o ≡ Some (node.Part p) → ⊥) → ⊥
+not_seen_by id t u None live some none gone part = let e : false ≡ true = some in cc
+not_seen_by id t u (Some None) live some none gone part = let e = gone refl in cc
+not_seen_by id t u (Some (Some (node.Part p))) live some none gone part = part p refl
+not_seen_by id t u (Some (Some (node.Entry e))) live some none gone part = cc
+
+down_head : (w : Unfolded) (l : Link) (rest : ℕ) → led_by (Some l) ≡ led w → node_name w ≡ Some (name.Entry l.id) → Any (λ i. name.Entry l.id ≡ name.Entry (id_of i)) (down_to rest w)
+down_head (Folder id label less more inside) l rest h named = inl (let e : name.Entry (id_of id) ≡ name.Entry l.id = cc in sym e)
+down_head (Leaf id label less more size counter versions) l rest h named = inl (let e : name.Entry (id_of id) ≡ name.Entry l.id = cc in sym e)
+down_head (Split f k i low high) l rest h named = cc
+down_head Absent l rest h named = cc
+down_head (Even v) l rest h named = cc
+down_head (Stored v bytes) l rest h named = cc
+
+module _ (root : FileId) (d : Drafted) (c : Resident) (old new : Shown) (top : Unfolded) (is : RootIs root d c old new top) where
+  see : Sees old new d c
+  see = sees_drafts old new d c is.was is.is is.drafts
+
+  pub sunk_top : (at : ℕ) (h : Hash32) (b : ℕ) → root.0 < 2 → Sunk root old new d c top at (record { id = root; hash = h; blocks = b }) at 0
+  sunk_top at h b lt =
+      record {
+        under = top;
+        stand = record { live = is.live; wanted = λ missing. root_wanted old new d c see (name.Entry root) top (Hash h) (root_name root lt) tt is.live missing };
+        past = tt; same = refl; on = inl refl; met = λ n h. h;
+      }
+
+  -- the entry under a name, as it is seen
+  pub like_there : (id : FileId) (u : Unfolded) (e : EntryFields) → new (name.Entry id) ≡ Some u → Some e ≡ entry_in (seen d c (name.Entry id)) → local u ≡ Some (entry_local e e.body)
+  like_there id u e live at = subst (λ o. IsLike o (node.Entry e)) live (see.nodes (name.Entry id) (node.Entry e) (is_entry (seen d c (name.Entry id)) e at))
+
+  pub not_seen : (id : FileId) (u : Unfolded) → new (name.Entry id) ≡ Some u → IsSome (known d c (name.Entry id)) → None ≡ entry_in (seen d c (name.Entry id)) → ⊥
+  not_seen id u live some none =
+      let n = name.Entry id in
+      not_seen_by id (new n) u (known d c n) live some none (see.gone n tt)
+      (λ p at. let h = subst (λ o. IsLike o (node.Part p)) live (see.nodes n (node.Part p) at) in part_apart u id p (live-name new n u (local_of (node.Part p)) see.is live h) h)
+
+  module _ (at : ℕ) (l : Link) (place k : ℕ) (s : Sunk root old new d c top at l place k) where
+    pub sunk_lacks : known d c (name.Entry l.id) ≡ None → IsBelow root at top (name.Entry l.id) × IsWanted old new c (name.Entry l.id) (Hash l.hash)
+    sunk_lacks missing = (s.on, s.stand.wanted missing)
+
+    pub sunk_gone : {P : Type 0} → IsSome (known d c (name.Entry l.id)) → None ≡ entry_in (seen d c (name.Entry l.id)) → P
+    sunk_gone some none = absurd (not_seen l.id s.under s.stand.live some none)
+
+    pub sunk_long : {P : Type 0} → length d.changes + length c.nodes < k → P
+    sunk_long lt = let b = past_bound new d c k _ s.past in absurd (omega arith)
+
+    module _ (e : EntryFields) (there : Some e ≡ entry_in (seen d c (name.Entry l.id))) where
+      like : local s.under ≡ Some (entry_local e e.body)
+      like = like_there l.id s.under e s.stand.live there
+
+      named : node_name s.under ≡ Some (name.Entry l.id)
+      named = live-name new (name.Entry l.id) s.under (entry_local e e.body) see.is s.stand.live like
+
+      -- the block is the entry's own
+      pub sunk_own : (p : ℕ) → IsTurn place e (Own p) → block_found (Some (l.id, p)) ≡ slice_get (walk top) at
+      sunk_own p t = turned_own s.under e place p l.id like named t ∙ s.same
+
+      -- there is no such block
+      pub sunk_end : (rest : ℕ) → IsTurn place e (Under None rest) → None ≡ slice_get (walk top) at
+      sunk_end rest t =
+          let r = turned s.under e place None rest like t in
+          sym (ap (λ w. slice_get w rest) (walk_none r.under r.leads)) ∙ sym r.same ∙ s.same
+
+      pub sunk_down : (next : Link) (rest : ℕ) → IsTurn place e (Under (Some next) rest) → Sunk root old new d c top at next rest (suc k)
+      sunk_down next rest t =
+          let r = turned s.under e place (Some next) rest like t in
+          let n = name.Entry l.id in
+          let w = way_down old new d c see n s.under r.under (node.Entry e) (Some next) k s.stand.live (is_entry (seen d c n) e there) r.above r.leads r.holds s.past in
+          record {
+            under = r.under; stand = w.stands next refl; past = w.past; same = sym r.same ∙ s.same;
+            on = inr (s.met (name.Entry next.id) (r.met (name.Entry next.id) (down_head r.under next rest r.leads (led_named r.under next r.leads))));
+            met = λ m h. s.met m (r.met m h);
+          }
+
+  -- all blocks at and below the root
+  pub root_blocks : (e : EntryFields) → Some e ≡ entry_in (seen d c (name.Entry root)) → node_blocks e ≡ blocks top
+  root_blocks e there = like_blocks top e e.body (like_there root top e is.live there)
+
+-- why the search stops
+pub below_lack : (root : FileId) (d : Drafted) (c : Resident) (at : ℕ) (e : Short) (id : FileId) (h : Hash32) → e ≡ Need (name.Entry id) (Hash h) → known d c (name.Entry id) ≡ None
+    → ((old new : Shown) (u : Unfolded) → RootIs root d c old new u → IsBelow root at u (name.Entry id) × IsWanted old new c (name.Entry id) (Hash h)) → IsBelowLack root d c at e
+below_lack root d c at e id h is missing needed =
+    let u = unknown d c (name.Entry id) missing in
+    let lacks : LacksBelow root d c at (name.Entry id) (Hash h) = record { unset = u.0; absent = u.1; needed = needed } in
+    subst (λ e. IsBelowLack root d c at e) (sym is) lacks

@@ -1,0 +1,156 @@
+-- Ways down a treap with a treap at their end, and what a draft makes of them.
+use Rattle.std.proofs.Common.{◌≡◌, ◌≢◌, ◌⊎◌, inl, inr, ◌++◌, ◌+◌, ◌-◌, ◌≤◌, ◌<◌, ◌^◌, ℕ, zero, suc, Bool, true, false, cond, List, [], ◌∷◌, Option, Some, None, IsSome, refl, ap, sym, ◌∙◌, subst, arith, length, slice_get}
+use Rattle.iris_name.specs.Names.{same_name}
+use Rattle.iris_name.specs.NameLaws.{same_name-true, same_name-refl}
+use Rattle.iris_name.specs.declared.name.FileId.{FileId}
+use Rattle.iris_name.specs.declared.name.Hash32.{Hash32}
+use Rattle.iris_name.specs.declared.name.Name.{Name}
+use Rattle.iris_name.specs.declared.name.Name.TheVariants as name
+use Rattle.iris_node.specs.declared.node.Body.{Body}
+use Rattle.iris_node.specs.declared.node.Body.TheVariants.{Dir, File as FileBody}
+use Rattle.iris_node.specs.declared.node.Link.{Link}
+use Rattle.iris_node.specs.declared.node.Node.{Node}
+use Rattle.iris_node.specs.declared.node.Node.TheVariants as node
+use Rattle.iris_node.specs.Fields.{EntryFields}
+use Rattle.iris_node.specs.Local.{Lead, led, led_by, local, entry_local}
+use Rattle.iris_node.specs.Trees.{Shown}
+use Rattle.iris_node.specs.Unfolded.{Unfolded, Absent, Folder, Leaf, Even, Split, Stored, id_of, blocks}
+use Rattle.iris_shape.specs.Treap.{Treap, Empty, Over, rows, Each, Every}
+use Rattle.iris_shape.proofs.Treaps.{every_map}
+use Rattle.iris_cache.specs.declared.held.Held.{Held}
+use Rattle.iris_cache.specs.declared.draft.Change.{Change}
+use Rattle.iris_cache.specs.Resident.{Resident, held}
+use Rattle.iris_cache.specs.Drafted.{Drafted, drafted, seen, known_by, there_by, set_to}
+use Rattle.iris_cache.specs.Pictures.{Holds, LinkHolds, BodyHolds, IsHashOf, IsLike, IsSettled, parent_after, parent_by}
+use Rattle.iris_dirtree.specs.declared.removing.Crumb.{Crumb}
+use Rattle.iris_dirtree.specs.Nodes.{turned, link_blocks, own_blocks, node_blocks, LinksTo}
+use Rattle.iris_dirtree.specs.Planted.{IsWithin}
+use Rattle.iris_dirtree.specs.Rows.{Row, Content, Directory, File, entry_of, entries, row_entry}
+use Rattle.iris_dirtree.specs.Steps.{Step, over, under, entry_name, above, crumb_above, WasHash, Seat, Seated, Leads, IsCrumb, AreCrumbs, AreNamed, Outside, Once, Rising}
+use Rattle.iris_dirtree.proofs.Blocks.{like_blocks}
+use Rattle.iris_dirtree.proofs.Likes.{like_row, like_part, LikeRow}
+
+-- ---- the end of a way
+
+pub under_more : (xs : List Step) (x : Step) (w : Treap Row) → under (xs ++ x ∷ []) w ≡ under xs (over x w)
+under_more [] x w = refl
+under_more (y ∷ xs) x w = ap (over y) (under_more xs x w)
+
+pub above_more : (p : Name) (xs : List Step) (x : Step) → above p (xs ++ x ∷ []) ≡ entry_name x.row
+above_more p [] x = refl
+above_more p (y ∷ xs) x = above_more (entry_name y.row) xs x
+
+pub crumb_above_more : (d : FileId) (es : List Crumb) (e : Crumb) → crumb_above d (es ++ e ∷ []) ≡ e.node.id
+crumb_above_more d [] e = refl
+crumb_above_more d (f ∷ es) e = crumb_above_more f.node.id es e
+
+-- what was pushed last is above
+pub above_last : (d : FileId) (es : List Crumb) (e : Crumb) → slice_get es (length es - 1) ≡ Some e → e.node.id ≡ crumb_above d es
+above_last d [] e h = let g : None ≡ Some e = h in cc
+above_last d (f ∷ []) e h = let g : Some f ≡ Some e = h in let k : f ≡ e = cc in ap (λ (x : Crumb). x.node.id) (sym k)
+above_last d (f ∷ g ∷ es) e h =
+    let z : length (f ∷ g ∷ es) - 1 ≡ suc (length (g ∷ es) - 1) = omega arith in
+    let a : slice_get (f ∷ g ∷ es) (suc (length (g ∷ es) - 1)) ≡ Some e = sym (ap (slice_get (f ∷ g ∷ es)) z) ∙ h in
+    above_last f.node.id (g ∷ es) e a
+
+pub named_more : (es : List Crumb) (e : Crumb) → AreNamed es → 2 ≤ e.node.id.0 → AreNamed (es ++ e ∷ [])
+named_more [] e h k = (k, tt)
+named_more (f ∷ es) e h k = (h.0, named_more es e h.1 k)
+
+pub named_last : (es : List Crumb) (e : Crumb) → AreNamed (es ++ e ∷ []) → AreNamed es × (2 ≤ e.node.id.0)
+named_last [] e h = (tt, h.0)
+named_last (f ∷ es) e h = let r = named_last es e h.1 in ((h.0, r.0), r.1)
+
+-- ---- a node with a turned link
+
+turn_by : (right : Bool) (id : ℕ) (label : List ℕ) (c : Content) (l m v w : Unfolded) (e : EntryFields) (b : Body) (k : Option Link)
+    → local (entry_of id label c l m) ≡ Some (entry_local e b) → led_by k ≡ led w → cond right l m ≡ v
+    → local (entry_of id label c (cond right v w) (cond right w v)) ≡ Some (entry_local (turned right k e) b)
+turn_by true id label (Directory inside) l m v w e (Dir top) k h i g = cc
+turn_by true id label (Directory inside) l m v w e (FileBody size counter versions) k h i g = cc
+turn_by true id label (File s n x) l m v w e (Dir top) k h i g = cc
+turn_by true id label (File s n x) l m v w e (FileBody size counter versions) k h i g = cc
+turn_by false id label (Directory inside) l m v w e (Dir top) k h i g = cc
+turn_by false id label (Directory inside) l m v w e (FileBody size counter versions) k h i g = cc
+turn_by false id label (File s n x) l m v w e (Dir top) k h i g = cc
+turn_by false id label (File s n x) l m v w e (FileBody size counter versions) k h i g = cc
+
+pub turned_id : (right : Bool) (k : Option Link) (e : EntryFields) → (turned right k e).id ≡ e.id
+turned_id true k e = refl
+turned_id false k e = refl
+
+-- a node with a turned link is like its row over what that leads to
+pub turned_like : (x : Step) (v w : Treap Row) (e : EntryFields) (k : Option Link) → IsLike (Some (entries (over x v))) (node.Entry e) → led_by k ≡ led (entries w)
+    → IsLike (Some (entries (over x w))) (node.Entry (turned x.right k e))
+turned_like x v w e k h i = by x.right h
+  where
+    by : (r : Bool) → IsLike (Some (entries (cond r (Over x.row x.other v) (Over x.row v x.other)))) (node.Entry e) → IsLike (Some (entries (cond r (Over x.row x.other w) (Over x.row w x.other)))) (node.Entry (turned r k e))
+    by true g = turn_by true x.row.id x.row.name x.row.content (entries x.other) (entries v) (entries x.other) (entries w) e e.body k g i refl
+    by false g = turn_by false x.row.id x.row.name x.row.content (entries v) (entries x.other) (entries x.other) (entries w) e e.body k g i refl
+
+led_some : (id : ℕ) (label : List ℕ) (c : Content) (l m : Unfolded) → led (entry_of id label c l m) ≡ Some (record { id = id; blocks = blocks (entry_of id label c l m) })
+led_some id label (Directory inside) l m = refl
+led_some id label (File size counter versions) l m = refl
+
+-- a link made to a node that is like a row's entry leads there
+pub made_leads : (y : Row) (l m : Unfolded) (e : EntryFields) (h : Hash32) (k : Link) → IsLike (Some (row_entry y l m)) (node.Entry e) → blocks (row_entry y l m) < 2 ^ 64 → LinksTo e h k → led_by (Some k) ≡ led (row_entry y l m)
+made_leads y l m e h k like few to =
+    let b = like_blocks (row_entry y l m) e e.body like in
+    let i = like_row y l m e like in
+    let n : k.blocks ≡ blocks (row_entry y l m) = to.blocks (subst (λ n. n < 2 ^ 64) (sym b) few) ∙ b in
+    let j : k.id.0 ≡ y.id = ap (λ (f : FileId). f.0) to.id ∙ i.id_is in
+    let r : led_by (Some k) ≡ Some (record { id = y.id; blocks = blocks (row_entry y l m) }) = cc in
+    r ∙ sym (led_some y.id y.name y.content l m)
+
+-- ---- counts below a way
+
+blocks_sides : (id : ℕ) (label : List ℕ) (c : Content) (l m : Unfolded) → (blocks l ≤ blocks (entry_of id label c l m)) × (blocks m ≤ blocks (entry_of id label c l m))
+blocks_sides id label (Directory inside) l m = (omega arith, omega arith)
+blocks_sides id label (File size counter versions) l m = (omega arith, omega arith)
+
+over_blocks : (x : Step) (w : Treap Row) → blocks (entries w) ≤ blocks (entries (over x w))
+over_blocks x w = by x.right
+  where
+    by : (r : Bool) → blocks (entries w) ≤ blocks (entries (cond r (Over x.row x.other w) (Over x.row w x.other)))
+    by true = (blocks_sides x.row.id x.row.name x.row.content (entries x.other) (entries w)).1
+    by false = (blocks_sides x.row.id x.row.name x.row.content (entries w) (entries x.other)).0
+
+pub under_blocks : (xs : List Step) (w : Treap Row) → blocks (entries w) ≤ blocks (entries (under xs w))
+under_blocks [] w = omega arith
+under_blocks (x ∷ xs) w = let a = under_blocks xs w in let b = over_blocks x (under xs w) in omega arith
+
+-- ---- names apart
+
+apart_swap : (a b : Treap Row) → Every (λ z. Outside (entry_name z) b) a → Every (λ z. Outside (entry_name z) a) b
+apart_swap a Empty h = tt
+apart_swap a (Over y l m) h = (
+  every_map (λ z. Outside (entry_name z) (Over y l m)) (λ z. entry_name y ≢ entry_name z) a (λ z o e. o.0 (sym e)) h,
+  apart_swap a l (every_map (λ z. Outside (entry_name z) (Over y l m)) (λ z. Outside (entry_name z) l) a (λ z o. o.1) h),
+  apart_swap a m (every_map (λ z. Outside (entry_name z) (Over y l m)) (λ z. Outside (entry_name z) m) a (λ z o. o.2) h),
+)
+
+-- what is apart at a step
+pub record Apart (x : Step) (w : Treap Row) : Type 0 where
+  pub row : Outside (entry_name x.row) w
+  pub row_other : Outside (entry_name x.row) x.other
+  pub other : Every (λ z. Outside (entry_name z) w) x.other
+  pub below : Once w
+
+pub once_over : (x : Step) (w : Treap Row) → Once (over x w) → Apart x w
+once_over x w h = by x.right h
+  where
+    by : (r : Bool) → Once (cond r (Over x.row x.other w) (Over x.row w x.other)) → Apart x w
+    by true g = record { row = g.1; row_other = g.0; other = g.2; below = g.4 }
+    by false g = record { row = g.0; row_other = g.1; other = apart_swap w x.other g.2; below = g.3 }
+
+pub once_under : (xs : List Step) (w : Treap Row) → Once (under xs w) → Once w
+once_under [] w h = h
+once_under (x ∷ xs) w h = once_under xs w (once_over x (under xs w) h).below
+
+-- a name outside a step's treap is outside of what is below it
+pub outside_over : (n : Name) (x : Step) (w : Treap Row) → Outside n (over x w) → (n ≢ entry_name x.row) × Outside n x.other × Outside n w
+outside_over n x w h = by x.right h
+  where
+    by : (r : Bool) → Outside n (cond r (Over x.row x.other w) (Over x.row w x.other)) → (n ≢ entry_name x.row) × Outside n x.other × Outside n w
+    by true g = (g.0, g.1, g.2)
+    by false g = (g.0, g.2, g.1)

@@ -1,0 +1,10 @@
+use Rattle.std.proofs.Common.{ap, ◌∙◌, sym}
+use Rattle.iris_dirtree.proofs.Steps.{above_last}
+use Rattle.iris_dirtree.specs.declared.removing.Crumb.{Crumb}
+use Rattle.iris_dirtree.proofs.removing.above.Goals as goal
+
+pub returns-in-Some : goal.returns-in-Some
+returns-in-Some c =
+    let e = above_last c.args.dir c.args.path.now c.in-Some.crumb.now (sym c.in-Some.ensures.value) in
+    let v = ap (λ (x : Crumb). x.node.id) c.crumb.view_is in
+    v ∙ e

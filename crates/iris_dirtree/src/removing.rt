@@ -1,0 +1,290 @@
+//! Takes a row out of a directory's treap.
+
+ghost use Rattle.std.specs.Prelude.{◌≡◌, ◌≤◌, ◌<◌, ◌^◌, ◌++◌, Bool, List, ◌∷◌, [], Option, Some, None, IsSome, IfOk, IfErr, OnOk, cond};
+ghost use Rattle.iris_name.specs.declared.name.Name.{Name as SpecName};
+ghost use Rattle.iris_node.specs.declared.node.Link.{Link as AnyLink};
+ghost use Rattle.iris_node.specs.Fields.{EntryFields};
+ghost use Rattle.iris_node.specs.Rules.{IsLinked};
+ghost use Rattle.iris_node.specs.Trees.{IsTree, Shown};
+ghost use Rattle.iris_node.specs.Unfolded.{blocks};
+ghost use Rattle.iris_shape.specs.Treap.{Treap, treap, without};
+ghost use Rattle.iris_cache.specs.Drafted.{Drafted, drafted, seen};
+ghost use Rattle.iris_dirtree.specs.Descents.{Seeking, FoundRow, Joining, Ended, IsStop, Seeks, Joins};
+ghost use Rattle.iris_dirtree.specs.Hands.{Holding, HoldsTrue, IsRowNode};
+ghost use Rattle.iris_dirtree.specs.Counts.{IsEntryName};
+ghost use Rattle.iris_dirtree.specs.Needs.{IsDirectory, IsShort, Listed};
+ghost use Rattle.iris_dirtree.specs.Nodes.{IsPut, LinksTo, between, turned};
+ghost use Rattle.iris_dirtree.specs.Planted.{Planted};
+ghost use Rattle.iris_dirtree.specs.Rows.{IsCountable, Rearranges, Row, arranged, entries, up};
+ghost use Rattle.iris_dirtree.specs.Steps.{AreNamed, Once, Rising, crumb_above};
+ghost use Rattle.iris_dirtree.specs.Ways.{Any, is_named, near_name};
+
+use crate::counting::recount;
+use crate::finding::longest_way;
+use crate::nodes::{copy_entry, entry_at, is_named, link_to, set_top, side, stands_above, stands_before, top_of, turn};
+use iris_cache::{Cache, Draft, Short};
+use iris_mac::Keys;
+use iris_name::{FileId, Hash32, Name, NoMemory, Text};
+use iris_node::{EntryNode, Link, Node};
+use std::alloc::Global;
+
+/// An entry met on a way down, on which side the way goes on, and the hash by which it was reached.
+#[derive(Drop)]
+pub(crate) struct Crumb {
+    pub node: EntryNode,
+    pub right: bool,
+    pub hash: Hash32,
+}
+
+// The row of a name, and the entries above it.
+#[derive(Drop)]
+struct Found {
+    path: Vec<Crumb>,
+    row: EntryNode,
+}
+
+// The entries above what is left once two treaps are joined, and the link to that.
+#[derive(Drop)]
+struct Met {
+    path: Vec<Crumb>,
+    end: Option<Link>,
+}
+
+fn keep(path: &mut Vec<Crumb>, node: EntryNode, right: bool, hash: Hash32) -> Result<(), NoMemory>
+    ensures { OnOk result (path.new.items ≡ path.old.items ++ record { node = node; right = right; hash = hash } ∷ []) }
+{
+    path.push(Crumb { node, right, hash })?;
+    Ok(())
+}
+
+// Goes down from a directory's topmost entry to the row of a name.
+fn find_row(
+    alloc: Global,
+    draft: &Draft,
+    cache: &Cache,
+    top: Option<Link>,
+    name: &Text,
+) -> Result<Found, Short>
+    requires { IsLinked top }
+    ensures found { IfOk result (λ r. (old new : Shown) → (t : Treap Row) → (p : SpecName) → (up : Row → Row → Bool) → Seeking old new cache.now t draft.now p up name.now [] top → FoundRow old new cache.now t draft.now up name.now r.path.items r.row) }
+    ensures named { IfOk result (λ r. AreNamed r.path.items) }
+    ensures short { IfErr result (IsStop (Seeks draft.now cache.now name.now top) draft.now cache.now) }
+{
+    let mut path = Vec::new(alloc);
+    let mut at = top;
+    for step in 0..longest_way(draft, cache) {
+        let Some(link) = at else {
+            return Err(Short::NoMemory);
+        };
+        let node = entry_at(alloc, draft, cache, link)?;
+        if is_named(&node.name, name) {
+            return Ok(Found { path, row: node });
+        }
+        let right = stands_before(&node.name, name);
+        at = side(&node, right);
+        keep(&mut path, node, right, link.hash)?;
+    }
+    Err(Short::NoMemory)
+}
+
+// The link whose entry stands above.
+fn chosen(right: bool, x: Link, y: Link) -> Link
+    ensures { result ≡ cond right x y }
+{
+    if right { x } else { y }
+}
+
+// What is left of the entries of lesser names.
+fn rest_less(right: bool, node: &EntryNode, x: Link) -> Option<Link>
+    requires { 2 ≤ x.id.0 }
+    ensures link { result ≡ cond right node.now.right (Some x) }
+    ensures linked { IsLinked result }
+{
+    if right { node.right } else { Some(x) }
+}
+
+// What is left of the entries of greater names.
+fn rest_more(right: bool, node: &EntryNode, y: Link) -> Option<Link>
+    requires { 2 ≤ y.id.0 }
+    ensures link { result ≡ cond right (Some y) node.now.left }
+    ensures linked { IsLinked result }
+{
+    if right { Some(y) } else { node.left }
+}
+
+// Goes down the two treaps beside a row as they are to be joined.
+fn join_sides(
+    alloc: Global,
+    draft: &Draft,
+    cache: &Cache,
+    keys: &Keys,
+    row: &EntryNode,
+    path: Vec<Crumb>,
+) -> Result<Met, Short>
+    requires { AreNamed path.items }
+    ensures ended { IfOk result (λ r. (old new : Shown) → (t u : Treap Row) → (met : List Row) → Joining old new cache.now t draft.now (up keys.now.order) met u path.items row.now.left row.now.right → Ended old cache.now t draft.now u r.path.items r.end) }
+    ensures named { IfOk result (λ r. AreNamed r.path.items) }
+    ensures linked { IfOk result (λ r. IsLinked r.end) }
+    ensures short { IfErr result (IsStop (Joins draft.now cache.now (up keys.now.order) path.items row.now.left row.now.right) draft.now cache.now) }
+{
+    let mut path = path;
+    let mut less = row.left;
+    let mut more = row.right;
+    for step in 0..longest_way(draft, cache) {
+        let Some(x) = less else {
+            return Ok(Met { path, end: more });
+        };
+        let Some(y) = more else {
+            return Ok(Met { path, end: less });
+        };
+        let right = stands_above(keys, x.id, y.id);
+        let link = chosen(right, x, y);
+        let node = entry_at(alloc, draft, cache, link)?;
+        less = rest_less(right, &node, x);
+        more = rest_more(right, &node, y);
+        keep(&mut path, node, right, link.hash)?;
+    }
+    Err(Short::NoMemory)
+}
+
+// The entry above the end of a way down from a directory's.
+fn above(path: &[Crumb], dir: FileId) -> FileId
+    ensures { result ≡ crumb_above dir path.now }
+{
+    match path.last() {
+        Some(crumb) => crumb.node.id,
+        None => dir,
+    }
+}
+
+// Hangs the entry to which a link leads below another one, where it is seen.
+fn move_rest(
+    alloc: Global,
+    draft: &mut Draft,
+    cache: &Cache,
+    end: Option<Link>,
+    parent: FileId,
+) -> Result<(), NoMemory>
+    ensures moved { OnOk result ((k : AnyLink) → (e : EntryFields) → end ≡ Some k → seen draft.old cache.now (Name.Entry k.id) ≡ Some (Node.Entry e) → IsPut draft.old draft.new (Some (Name.Entry parent)) e) }
+    ensures missing { OnOk result ((k : AnyLink) → end ≡ Some k → seen draft.old cache.now (Name.Entry k.id) ≡ None → draft.new ≡ draft.old) }
+    ensures nothing { OnOk result (end ≡ None → draft.new ≡ draft.old) }
+    ensures stays { OnOk result ((n : SpecName) → IsSome (seen draft.old cache.now n) → IsSome (seen draft.new cache.now n)) }
+    ensures others { OnOk result ((n : SpecName) → (IsEntryName n → ⊥) → drafted draft.new n ≡ drafted draft.old n) }
+{
+    let Some(link) = end else {
+        return Ok(());
+    };
+    let entry = match draft.view(cache, &Name::Entry { id: link.id }) {
+        Some(Node::Entry(entry)) => copy_entry(alloc, entry)?,
+        _ => return Ok(()),
+    };
+    draft.set(Some(Name::Entry { id: parent }), Node::Entry(entry))
+}
+
+// Sets a crumb's entry over a link, below another entry, and links to it.
+fn settle(
+    draft: &mut Draft,
+    parent: FileId,
+    crumb: Crumb,
+    link: Option<Link>,
+) -> Result<Link, NoMemory>
+    requires row { 2 ≤ crumb.node.id.0 }
+    requires linked { IsLinked link }
+    ensures link { IfOk result (LinksTo (turned crumb.right link crumb.node) crumb.hash) }
+    ensures set { OnOk result (IsPut draft.old draft.new (Some (Name.Entry parent)) (turned crumb.right link crumb.node)) }
+{
+    let node = turn(crumb.node, crumb.right, link);
+    let made = link_to(&node, crumb.hash);
+    draft.set(Some(Name::Entry { id: parent }), Node::Entry(node))?;
+    Ok(made)
+}
+
+// Sets the entries of a way anew, from its end up, and links to the topmost.
+fn climb(
+    draft: &mut Draft,
+    cache: &Cache,
+    path: Vec<Crumb>,
+    dir: FileId,
+    end: Option<Link>,
+) -> Result<Option<Link>, NoMemory>
+    requires named { AreNamed path.items }
+    requires linked { IsLinked end }
+    ensures risen { IfOk result (λ k. (old : Shown) → (t u : Treap Row) → (d : Drafted) → Once u → blocks (entries u) < 2 ^ 64 → IsSome (seen d cache.now (Name.Entry dir))
+        → Rising old cache.now t d draft.old (Name.Entry dir) u path.items end → Rising old cache.now t d draft.new (Name.Entry dir) u [] k) }
+    ensures linked { IfOk result (λ k. IsLinked k) }
+    ensures stays { OnOk result ((n : SpecName) → IsSome (seen draft.old cache.now n) → IsSome (seen draft.new cache.now n)) }
+    ensures others { OnOk result ((n : SpecName) → (IsEntryName n → ⊥) → drafted draft.new n ≡ drafted draft.old n) }
+{
+    let mut path = path;
+    let mut link = end;
+    while let Some(crumb) = path.pop() {
+        let parent = above(path.as_slice(), dir);
+        link = Some(settle(draft, parent, crumb, link)?);
+    }
+    Ok(link)
+}
+
+// Takes the row of a name out of a directory's treap, and hands its entry out. The counts above the directory stay.
+fn unplant(
+    alloc: Global,
+    draft: &mut Draft,
+    cache: &Cache,
+    keys: &Keys,
+    dir: FileId,
+    name: &Text,
+) -> Result<EntryNode, Short>
+    requires { IsDirectory draft.old cache.now dir }
+    ensures planted { IfOk result (λ e. (old new : Shown) → (x : Row) → (rows : List Row) → Listed keys.now.order dir draft.old cache.now old new rows → Any (λ r. r ≡ x) rows → x.name ≡ name.now
+        → blocks (arranged keys.now.order (without (is_named name.now) rows)) < 2 ^ 64 → Planted old dir (treap (up keys.now.order) rows) (treap (up keys.now.order) (without (is_named name.now) rows)) draft.old draft.new cache.now) }
+    ensures there { OnOk result (IsSome (seen draft.old cache.now (Name.Entry dir))) }
+    ensures row { IfOk result (λ e. (old new : Shown) → (x : Row) → (rows : List Row) → Listed keys.now.order dir draft.old cache.now old new rows → Any (λ r. r ≡ x) rows → x.name ≡ name.now → IsRowNode x e × HoldsTrue old cache.now e) }
+    ensures stays { IfOk result (λ e. (n : SpecName) → IsSome (seen draft.old cache.now n) → (n ≡ Name.Entry e.id → ⊥) → IsSome (seen draft.new cache.now n)) }
+    ensures others { OnOk result ((n : SpecName) → (IsEntryName n → ⊥) → drafted draft.new n ≡ drafted draft.old n) }
+    ensures short { IfErr result (IsShort (Listed keys.now.order dir draft.old cache.now) (near_name name.now keys.now.order) draft.old cache.now dir) }
+{
+    let top = top_of(draft, cache, dir)?;
+    let Found { path, row } = find_row(alloc, draft, cache, top, name)?;
+    let Met { path, end } = join_sides(alloc, draft, cache, keys, &row, path)?;
+    move_rest(alloc, draft, cache, end, above(path.as_slice(), dir))?;
+    let top = climb(draft, cache, path, dir, end)?;
+    set_top(alloc, draft, cache, dir, top)?;
+    draft.remove(&Name::Entry { id: row.id })?;
+    Ok(row)
+}
+
+// An entry without links beside it.
+fn bare(entry: EntryNode) -> EntryNode
+    ensures { result ≡ between None None entry }
+{
+    EntryNode {
+        id: entry.id,
+        name: entry.name,
+        left: None,
+        right: None,
+        body: entry.body,
+    }
+}
+
+/// Takes the row of a name out of a directory, and hands its entry out: the row is in hand then, and what is below it stays. It
+/// reads the rows on the way to the name and from there to its neighbours. Where no row has the name, it answers want of memory.
+/// After an `Err` the draft is given up.
+pub fn plan_remove(
+    alloc: Global,
+    draft: &mut Draft,
+    cache: &Cache,
+    keys: &Keys,
+    dir: FileId,
+    name: &Text,
+) -> Result<EntryNode, Short>
+    requires dir { IsDirectory draft.old cache.now dir }
+    ensures removed { IfOk result (λ e. (old new made : Shown) → (x : Row) → (rows : List Row) → Listed keys.now.order dir draft.old cache.now old new rows → Any (λ r. r ≡ x) rows → x.name ≡ name.now
+        → IsTree made → IsCountable made → Rearranges new made keys.now.order dir rows (without (is_named name.now) rows) → Holding old made (Some x) draft.new cache.now × IsRowNode x e × HoldsTrue old cache.now e) }
+    ensures bare { IfOk result (λ e. (e.left ≡ None) × (e.right ≡ None)) }
+    ensures stays { IfOk result (λ e. (n : SpecName) → IsSome (seen draft.old cache.now n) → (n ≡ Name.Entry e.id → ⊥) → IsSome (seen draft.new cache.now n)) }
+    ensures others { OnOk result ((n : SpecName) → (IsEntryName n → ⊥) → drafted draft.new n ≡ drafted draft.old n) }
+    ensures short { IfErr result (IsShort (Listed keys.now.order dir draft.old cache.now) (near_name name.now keys.now.order) draft.old cache.now dir) }
+{
+    let entry = unplant(alloc, draft, cache, keys, dir, name)?;
+    recount(alloc, draft, cache, dir)?;
+    Ok(bare(entry))
+}
