@@ -1,5 +1,5 @@
 -- Where the block at a place of the walk lies, by counts.
-use Rattle.std.proofs.Common.{◌≡◌, ◌+◌, ◌-◌, ◌/◌, ◌<◌, ◌≤◌, ◌++◌, inl, inr, ◌⊎◌, nat_lt, ℕ, zero, suc, List, [], ◌∷◌, Bool, true, false, cond, Option, Some, None, refl, ap, sym, ◌∙◌, subst, arith, length, map}
+use Rattle.std.proofs.Common.{◌≡◌, ◌+◌, ◌-◌, ◌/◌, ◌<◌, ◌≤◌, ◌++◌, inl, inr, nat_lt, ℕ, zero, suc, List, [], ◌∷◌, true, false, Option, Some, None, refl, ap, sym, ◌∙◌, subst, arith, length}
 use Rattle.std.specs.Prelude.{slice_get, if◌then◌else◌}
 use Rattle.std.specs.List.{range_with_len}
 use Rattle.std.specs.Option.{option_map}
@@ -21,8 +21,8 @@ use Rattle.iris_node.specs.Trees.{IsAbove, node_name}
 use Rattle.iris_node.specs.Unfolded.{Unfolded, Absent, Folder, Leaf, Even, Split, Stored, id_of, blocks}
 use Rattle.iris_node.specs.Walk.{BlockAt, walk, file_blocks, block_count}
 use Rattle.iris_node.proofs.Walking.{counted}
-use Rattle.iris_cache.specs.Pictures.{Holds, LinkHolds, BodyHolds}
-use Rattle.iris_dirtree.specs.Nodes.{link_blocks, own_blocks, node_blocks}
+use Rattle.iris_cache.specs.Pictures.{Holds, BodyHolds}
+use Rattle.iris_dirtree.specs.Nodes.{link_blocks, own_blocks}
 use Rattle.iris_dirtree.specs.Places.{down_to}
 use Rattle.iris_dirtree.specs.Turns.{IsTurn}
 use Rattle.iris_dirtree.specs.Ways.{Any}
@@ -61,10 +61,10 @@ file_at id size p lt =
     let f : ℕ → BlockAt = λ place. record { file = id; place = place } in
     slice_get-map f (range_with_len 0 (block_count size)) p ∙ ap (option_map f) (range_at (block_count size) p lt)
 
-is_less : (a b : ℕ) → a < b → nat_lt a b ≡ true
+pub is_less : (a b : ℕ) → a < b → nat_lt a b ≡ true
 is_less a b lt = grind (arith, nat_tests)
 
-is_not_less : (a b : ℕ) → b ≤ a → nat_lt a b ≡ false
+pub is_not_less : (a b : ℕ) → b ≤ a → nat_lt a b ≡ false
 is_not_less a b le = grind (arith, nat_tests)
 
 -- a choice of three by counts
