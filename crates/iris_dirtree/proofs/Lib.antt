@@ -7,3 +7,5 @@ pub mod Stands
 pub mod Searches
 pub mod Blocks
 pub mod Placings
+pub mod Pages
+pub mod Pilings

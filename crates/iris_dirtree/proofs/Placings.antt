@@ -30,11 +30,12 @@ use Rattle.iris_dirtree.specs.Places.{down_to, Rooted, whole_walk, IsOnWay, IsPl
 use Rattle.iris_dirtree.specs.Turns.{IsTurn, block_found}
 use Rattle.iris_dirtree.specs.Ways.{Any}
 use Rattle.iris_dirtree.specs.Below.{RootIs, IsBelow, LacksBelow, IsBelowLack}
+use Rattle.iris_dirtree.specs.Reached.{size, Past, Stand, Way}
 use Rattle.iris_dirtree.specs.Found.{entry_in}
 use Rattle.iris_dirtree.specs.declared.placing.Turn.TheVariants.{Own, Under}
 use Rattle.iris_dirtree.proofs.Sees.{Sees, sees_drafts, root_wanted}
-use Rattle.iris_dirtree.proofs.Pasts.{Past, past_bound, size}
-use Rattle.iris_dirtree.proofs.Stands.{Stand, way_down, is_entry, root_name, led_named}
+use Rattle.iris_dirtree.proofs.Pasts.{past_bound}
+use Rattle.iris_dirtree.proofs.Stands.{way_down, is_entry, root_name, led_named}
 use Rattle.iris_dirtree.proofs.Blocks.{turned, turned_own, walk_none, like_blocks, get_left, get_right, is_less, is_not_less}
 
 -- how far the way down to a block has come: the block lies at a place of the walk under a link

@@ -6,5 +6,7 @@ pub mod Places
 pub mod Planted
 pub mod Nodes
 pub mod Found
+pub mod Reached
+pub mod Piles
 pub mod Turns
 pub mod Below
