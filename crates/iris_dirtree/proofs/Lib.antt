@@ -9,3 +9,4 @@ pub mod Blocks
 pub mod Placings
 pub mod Pages
 pub mod Pilings
+pub mod Listings

@@ -1,10 +1,10 @@
 -- Lists of rows from a name on, in a treap, and the ways to the rows of a page.
-use Rattle.std.proofs.Common.{◌≡◌, ◌&&◌, ◌+◌, ◌<◌, not, ◌++◌, inl, inr, ◌⊎◌, ℕ, zero, suc, List, [], ◌∷◌, Bool, true, false, cond, refl, ap, sym, ◌∙◌, subst, take, length, arith}
+use Rattle.std.proofs.Common.{◌≡◌, ◌&&◌, ◌<◌, not, ◌++◌, inl, inr, ◌⊎◌, ℕ, zero, suc, List, [], ◌∷◌, Bool, true, false, cond, refl, ap, sym, ◌∙◌, subst, take, length, arith}
 use Rattle.std.proofs.lemmas.Bool.{both_ways, cond-true, cond-false, not-false}
 use Rattle.iris_shape.specs.Treap.{Treap, Empty, Over, rows, high, skip, way, Each, Every, Falls}
 use Rattle.iris_shape.specs.Order.{less_name, Rising}
 use Rattle.iris_shape.proofs.Orders.{less_through}
-use Rattle.iris_shape.proofs.Treaps.{each_left, each_right, every_of, every_high, falls_left, falls_right}
+use Rattle.iris_shape.proofs.Treaps.{each_right, every_of, every_high, falls_left, falls_right}
 use Rattle.iris_dirtree.specs.Rows.{Row, row_name}
 use Rattle.iris_dirtree.specs.Ways.{Any, along, before, is_named, up_to, along_name, along_each}
 use Rattle.iris_dirtree.specs.Piles.{Sub, whole, left, right}
@@ -159,10 +159,14 @@ next_less P n y l m lts f s =
     let e : p y ≡ false = ap (λ t. not t) f in
     let lt = next_each P (λ z. less_name z.name y.name ≡ true) l (rows (high p l)) s (each_high (λ z. less_name z.name y.name ≡ true) p l lts) in
     record {
-      row = s.row; rest = s.rest ++ y ∷ rows m;
+      row = s.row;
+      rest = s.rest ++ y ∷ rows m;
       is = ap rows (cond-false (p y) (high p m) (Over y (high p l) m) e) ∙ ap (λ a. a ++ y ∷ rows m) s.is;
       met = step_left P s.row y l m lt s.met;
     }
+
+abbrev GoesOn : (Row → Type 0) → List ℕ → Treap Row → Type 0
+GoesOn P n t = Any P (way (up_to n) t) → Any P (along (before n) (is_named n) t) ⊎ NextAfter P n t
 
 -- going down to the gap after a name meets only what is met on the way to the name, or to the first row after it
 pub way_next : (P : Row → Type 0) (n : List ℕ) (t : Treap Row) → Rising row_name (rows t) → Any P (way (up_to n) t) → Any P (along (before n) (is_named n) t) ⊎ NextAfter P n t
@@ -170,13 +174,10 @@ way_next P n Empty rise a = absurd a
 way_next P n (Over y l m) rise (inl a) = inl (inl a)
 way_next P n (Over y l m) rise (inr a) = by (less_name n y.name) refl (way_next P n l (rising_left row_name (rows l) (y ∷ rows m) rise)) (way_next P n m R.1)
   where
-    abbrev Met : Treap Row → Type 0
-    Met t = Any P (way (up_to n) t) → Any P (along (before n) (is_named n) t) ⊎ NextAfter P n t
-
     R : Each (λ (z : Row). less_name y.name z.name ≡ true) (rows m) × Rising row_name (rows m)
     R = rising_right row_name (rows l) (y ∷ rows m) rise
 
-    later : (t : Bool) → less_name y.name n ≡ t → less_name n y.name ≡ false → Met m → Any P (way (up_to n) m) → Any P (along (before n) (is_named n) (Over y l m)) ⊎ NextAfter P n (Over y l m)
+    later : (t : Bool) → less_name y.name n ≡ t → less_name n y.name ≡ false → GoesOn P n m → Any P (way (up_to n) m) → Any P (along (before n) (is_named n) (Over y l m)) ⊎ NextAfter P n (Over y l m)
     later true e f im b =
         elim (im b) [
           | inl c ↦ inl (step_right_by P n y l m e c)
@@ -188,7 +189,7 @@ way_next P n (Over y l m) rise (inr a) = by (less_name n y.name) refl (way_next 
         let s = spine P (up_to n) m R.1 all b in
         inr (next_more P n y l m R.0 f (record { row = s.row; rest = s.rest; is = ap rows (high_all (up_to n) m all) ∙ s.is; met = s.met }))
 
-    by : (t : Bool) → less_name n y.name ≡ t → Met l → Met m → Any P (along (before n) (is_named n) (Over y l m)) ⊎ NextAfter P n (Over y l m)
+    by : (t : Bool) → less_name n y.name ≡ t → GoesOn P n l → GoesOn P n m → Any P (along (before n) (is_named n) (Over y l m)) ⊎ NextAfter P n (Over y l m)
     by true e il im =
         elim (il (subst (Any P) (cond-false (up_to n y) (way (up_to n) m) (way (up_to n) l) (ap (λ t. not t) e)) a)) [
           | inl c ↦ inl (step_left_by P n y l m e c)

@@ -1,5 +1,5 @@
 -- A walk down to the first name after one, over the rows that it passes.
-use Rattle.std.proofs.Common.{◌≡◌, ◌+◌, ◌<◌, ◌≤◌, not, ◌++◌, inl, inr, ◌⊎◌, ℕ, zero, suc, List, [], ◌∷◌, Bool, true, false, cond, map, Option, Some, None, IsSome, refl, ap, sym, ◌∙◌, subst, length, arith, append_assoc}
+use Rattle.std.proofs.Common.{◌≡◌, ◌+◌, ◌≤◌, not, ◌++◌, inl, inr, ℕ, suc, List, [], ◌∷◌, true, false, map, Option, Some, None, IsSome, refl, ap, sym, ◌∙◌, subst, length, arith, append_assoc}
 use Rattle.std.proofs.lemmas.Bool.{cond-true, cond-false}
 use Rattle.std.proofs.lemmas.List.{map-append}
 use Rattle.iris_name.specs.declared.name.FileId.{FileId}
@@ -12,17 +12,16 @@ use Rattle.iris_node.specs.Fields.{EntryFields}
 use Rattle.iris_node.specs.Local.{led_by}
 use Rattle.iris_node.specs.Trees.{Shown}
 use Rattle.iris_node.specs.Unfolded.{id_of}
-use Rattle.iris_shape.specs.Treap.{Treap, Empty, Over, rows, high, way, Each}
+use Rattle.iris_shape.specs.Treap.{Treap, Over, rows, high, way}
 use Rattle.iris_shape.specs.Order.{less_name}
 use Rattle.iris_cache.specs.declared.held.Short.{Short}
-use Rattle.iris_cache.specs.declared.held.Short.TheVariants.{Need, NoMemory}
+use Rattle.iris_cache.specs.declared.held.Short.TheVariants.{Need}
 use Rattle.iris_cache.specs.Resident.{Resident}
 use Rattle.iris_cache.specs.Drafted.{Drafted, known, seen}
 use Rattle.iris_dirtree.specs.Needs.{IsWanted}
 use Rattle.iris_dirtree.specs.Rows.{Row, row_entry, entries}
 use Rattle.iris_dirtree.specs.Ways.{Any, up_to}
 use Rattle.iris_dirtree.specs.Found.{entry_in}
-use Rattle.iris_dirtree.specs.Reached.{Way}
 use Rattle.iris_dirtree.specs.Piles.{Sub, left as left_part, right as right_part, Passed, passed_id, to_list, IsPassed, Tables, Piled, Piling, LacksUnder, IsUnderShort}
 use Rattle.iris_dirtree.proofs.Sees.{Sees, sees_drafts}
 use Rattle.iris_dirtree.proofs.Likes.{leads_empty, leads_over}
@@ -82,7 +81,10 @@ module _ (after : List ℕ) (d : Drafted) (c : Resident) (old new : Shown) (all 
           let y = h.row in
           let b : p y ≡ true = ap (λ n. not (less_name after n)) (sym h.like.name_is) ∙ ap (λ t. not t) f in
           record {
-            under = h.more; pile = s.pile; ids_are = s.ids_are; passed = s.passed;
+            under = h.more;
+            pile = s.pile;
+            ids_are = s.ids_are;
+            passed = s.passed;
             left_are = lists ∙ ap (λ w. rows w ++ to_list s.pile) (cond-true (p y) (high p h.more) (Over y (high p h.less) h.more) b);
             part = right_part h.row h.less h.more there;
             leads = h.right;
@@ -101,11 +103,12 @@ module _ (after : List ℕ) (d : Drafted) (c : Resident) (old new : Shown) (all 
           let z = passed_here in
           let b : p y ≡ false = ap (λ n. not (less_name after n)) (sym h.like.name_is) ∙ ap (λ t. not t) f in
           let live : new (name.Entry (id_of y.id)) ≡ Some (row_entry y (entries h.less) (entries h.more)) =
-                  ap (λ i. new (name.Entry i)) (sym h.id_is) ∙ (s.leads.stands l refl).live ∙ ap (λ w. Some (entries w)) h.is in
+          ap (λ i. new (name.Entry i)) (sym h.id_is) ∙ (s.leads.stands l refl).live ∙ ap (λ w. Some (entries w)) h.is in
           let sees : seen d c (name.Entry (id_of y.id)) ≡ Some (node.Entry e) = ap (λ i. seen d c (name.Entry i)) (sym h.id_is) ∙ is_entry (seen d c (name.Entry l.id)) e at in
           let one : IsPassed new d c all z = record { part = there; live = live; is_seen = sees } in
           record {
-            under = h.less; pile = s.pile ++ z ∷ [];
+            under = h.less;
+            pile = s.pile ++ z ∷ [];
             ids_are = ap (λ a. a ++ l.id ∷ []) s.ids_are ∙ ap (λ i. map passed_id s.pile ++ i ∷ []) h.id_is ∙ sym (map-append passed_id s.pile (z ∷ []));
             passed = each_join (IsPassed new d c all) s.pile (z ∷ []) s.passed (one, tt);
             left_are =

@@ -30,7 +30,7 @@ use Rattle.iris_dirtree.specs.Places.{down_to, Rooted, whole_walk, IsOnWay, IsPl
 use Rattle.iris_dirtree.specs.Turns.{IsTurn, block_found}
 use Rattle.iris_dirtree.specs.Ways.{Any}
 use Rattle.iris_dirtree.specs.Below.{RootIs, IsBelow, LacksBelow, IsBelowLack}
-use Rattle.iris_dirtree.specs.Reached.{size, Past, Stand, Way}
+use Rattle.iris_dirtree.specs.Reached.{size, Past, Stand}
 use Rattle.iris_dirtree.specs.Found.{entry_in}
 use Rattle.iris_dirtree.specs.declared.placing.Turn.TheVariants.{Own, Under}
 use Rattle.iris_dirtree.proofs.Sees.{Sees, sees_drafts, root_wanted}
@@ -79,7 +79,10 @@ module _ (root : FileId) (d : Drafted) (c : Resident) (old new : Shown) (top : U
       record {
         under = top;
         stand = record { live = is.live; wanted = λ missing. root_wanted old new d c see (name.Entry root) top (Hash h) (root_name root lt) tt is.live missing };
-        past = tt; same = refl; on = inl refl; met = λ n h. h;
+        past = tt;
+        same = refl;
+        on = inl refl;
+        met = λ n h. h;
       }
 
   -- the entry under a name, as it is seen
@@ -125,7 +128,10 @@ module _ (root : FileId) (d : Drafted) (c : Resident) (old new : Shown) (top : U
           let n = name.Entry l.id in
           let w = way_down old new d c see n s.under r.under (node.Entry e) (Some next) k s.stand.live (is_entry (seen d c n) e there) r.above r.leads r.holds s.past in
           record {
-            under = r.under; stand = w.stands next refl; past = w.past; same = sym r.same ∙ s.same;
+            under = r.under;
+            stand = w.stands next refl;
+            past = w.past;
+            same = sym r.same ∙ s.same;
             on = inr (s.met (name.Entry next.id) (r.met (name.Entry next.id) (down_head r.under next rest r.leads (led_named r.under next r.leads))));
             met = λ m h. s.met m (r.met m h);
           }
@@ -169,7 +175,7 @@ way_second n root trash at rest e lt (inl f) = inr (inl f)
 way_second n root trash at rest e lt (inr m) =
     let z : rest ≡ at - blocks root = omega arith in
     let ways = cond-false (nat_lt at (blocks root)) (down_to at root) (if nat_lt (at - blocks root) (blocks trash) then down_to (at - blocks root) trash else []) (is_not_less at (blocks root) (omega arith))
-        ∙ cond-true (nat_lt (at - blocks root) (blocks trash)) (down_to (at - blocks root) trash) [] (is_less (at - blocks root) (blocks trash) (omega arith)) ∙ ap (λ r. down_to r trash) (sym z) in
+    ∙ cond-true (nat_lt (at - blocks root) (blocks trash)) (down_to (at - blocks root) trash) [] (is_less (at - blocks root) (blocks trash) (omega arith)) ∙ ap (λ r. down_to r trash) (sym z) in
     inr (inr (subst (λ ids. Any (λ i. n ≡ name.Entry (id_of i)) ids) (sym ways) m))
 
 pub first_lack : (d : Drafted) (c : Resident) (at : ℕ) (e : Short) → ((old new : Shown) (root : Unfolded) → RootIs (id_of 0) d c old new root → at < blocks root) → IsBelowLack (id_of 0) d c at e → IsPlaceLack d c at e

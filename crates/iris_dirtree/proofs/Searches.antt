@@ -17,7 +17,7 @@ use Rattle.iris_cache.specs.Drafted.{Drafted, seen, known}
 use Rattle.iris_dirtree.specs.Rows.{Row, row_name, entries, up}
 use Rattle.iris_dirtree.specs.Ways.{Any, along, along_name, before, is_named, IsNamed}
 use Rattle.iris_dirtree.specs.Needs.{IsWanted, Listed}
-use Rattle.iris_dirtree.specs.Reached.{size, Past, Stand, Way}
+use Rattle.iris_dirtree.specs.Reached.{Way}
 use Rattle.iris_dirtree.specs.Found.{entry_in, inside}
 use Rattle.iris_dirtree.proofs.Sees.{Sees, sees_drafts}
 use Rattle.iris_dirtree.proofs.Likes.{leads_empty, leads_over}

@@ -9,7 +9,7 @@ use Rattle.iris_node.specs.declared.node.Node.TheVariants as node
 use Rattle.iris_node.specs.Fields.{EntryFields}
 use Rattle.iris_node.specs.Trees.{Shown, IsTree}
 use Rattle.iris_node.specs.Unfolded.{id_of}
-use Rattle.iris_shape.specs.Treap.{Treap, Empty, Over, rows, high, way, Each}
+use Rattle.iris_shape.specs.Treap.{Treap, Over, rows, high, way, Each}
 use Rattle.iris_cache.specs.declared.held.Short.{Short}
 use Rattle.iris_cache.specs.declared.held.Short.TheVariants.{Need, NoMemory}
 use Rattle.iris_cache.specs.Resident.{Resident}

@@ -65,12 +65,7 @@ fn next_turn(entry: &EntryNode, at: u64) -> Turn
 }
 
 // A place past all blocks at and below a root.
-fn past_root(
-    draft: &Draft,
-    cache: &Cache,
-    root: FileId,
-    at: u64,
-) -> Result<Option<u64>, Short>
+fn past_root(draft: &Draft, cache: &Cache, root: FileId, at: u64) -> Result<Option<u64>, Short>
     ensures past { IfOk result (λ r. (old new : Shown) → (u : Unfolded) → RootIs root draft.now cache.now old new u → MatchOption r (at < blocks u) (λ rest. at ≡ blocks u + rest)) }
     ensures need { IfErr result (λ e. e ≡ Short.Need (name.Entry root) (Expect.Hash ANY_HASH)) }
     ensures missing { IfErr result (λ _. known draft.now cache.now (name.Entry root) ≡ None) }
