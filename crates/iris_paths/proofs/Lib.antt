@@ -1,0 +1,10 @@
+pub mod Named
+pub mod Steps
+pub mod Reaching
+pub mod Arriving
+pub mod Entered
+pub mod Judging
+pub mod Welcome
+pub mod Made
+pub mod Moved
+pub mod Alike

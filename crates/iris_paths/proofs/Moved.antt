@@ -1,0 +1,219 @@
+-- A row moved under a new name.
+use Rattle.std.proofs.Common.{◌≡◌, ◌<◌, ◌++◌, ◌∙◌, ℕ, List, [], length, Bool, true, false, Option, Some, None, IsSome, refl, sym, ap, subst, inl, inr}
+use Rattle.std.proofs.lemmas.List.{append-nil}
+use Rattle.iris_name.specs.declared.name.FileId.{FileId}
+use Rattle.iris_name.specs.declared.name.Name.{Name}
+use Rattle.iris_name.specs.declared.name.Name.TheVariants as name
+use Rattle.iris_name.specs.declared.request.PlainError.{PlainError}
+use Rattle.iris_name.specs.declared.request.PlainError.TheVariants.{IntoSelf}
+use Rattle.iris_node.specs.declared.node.Body.{Body}
+use Rattle.iris_node.specs.declared.node.Body.TheVariants as body
+use Rattle.iris_node.specs.declared.node.Node.{Node}
+use Rattle.iris_node.specs.Fields.{EntryFields}
+use Rattle.std.specs.Option.{option_map}
+use Rattle.iris_node.specs.Local.{Local, FolderAt, LeafAt, SplitAt, local, entry_local}
+use Rattle.iris_node.specs.Trees.{Shown, IsTree}
+use Rattle.iris_node.specs.Unfolded.{Absent}
+use Rattle.iris_shape.specs.Treap.{put, without}
+use Rattle.iris_cache.specs.declared.held.Short.{Short}
+use Rattle.iris_cache.specs.declared.held.Short.TheVariants.{Need, NoMemory}
+use Rattle.iris_cache.specs.declared.draft.Change.{Change}
+use Rattle.iris_cache.specs.Resident.{Resident, held, IsSound}
+use Rattle.iris_cache.specs.Drafted.{Drafted, drafted, seen, IsDraft}
+use Rattle.iris_cache.specs.Pictures.{Drafts}
+use Rattle.iris_plain.specs.declared.checks.Seen.{Seen}
+use Rattle.iris_plain.specs.declared.checks.Seen.TheVariants.{ADirectory, AFile, Nothing, AFileBefore}
+use Rattle.iris_plain.specs.Checks.{unresolved, move_checks, then_error, error_if, is_there}
+use Rattle.iris_plain.specs.Routes.{parent, last, is_top, is_front}
+use Rattle.iris_dirtree.specs.Rows.{Row, Content, Directory, File, HasRows, Rearranges, IsCountable, IsRooted, entry_of}
+use Rattle.iris_dirtree.specs.Hands.{Holding, IsRowNode, HoldsTrue}
+use Rattle.iris_dirtree.specs.Ways.{Any, before, is_named, along_name}
+use Rattle.iris_dirtree.specs.Needs.{Listed, ListedInHand, IsShort, IsMet}
+use Rattle.iris_dirtree.proofs.Owned.{seen_own}
+use Rattle.iris_paths.specs.declared.resolving.Found.{Found}
+use Rattle.iris_paths.specs.declared.resolving.Found.TheVariants.{At}
+use Rattle.iris_paths.specs.declared.entering.Place.TheVariants.{In, Not}
+use Rattle.iris_paths.specs.Resolving.{Resolves}
+use Rattle.iris_paths.specs.Pictured.{Pictured, IsOnTrail, IsPathLack, every, AreInSight}
+use Rattle.iris_paths.specs.Following.{Follows, standing_seen, met_seen}
+use Rattle.iris_paths.specs.Entering.{IsPlace}
+use Rattle.iris_paths.specs.Moving.{renamed, Takes, Puts, IsSource, IsMoved, IsCarryShort, IsMoveShort}
+use Rattle.iris_paths.proofs.Alike.{Alike}
+use Rattle.iris_paths.proofs.Steps.{ended}
+use Rattle.iris_paths.proofs.Reaching.{listed}
+use Rattle.iris_paths.proofs.Arriving.{comes, meets_so}
+use Rattle.iris_paths.proofs.Welcome.{node_there, not_top}
+
+-- ---- out of which directory
+
+there_resolved : (s : Seen) → is_there s ≡ true → unresolved s ≡ None
+there_resolved ADirectory h = refl
+there_resolved (AFile size) h = refl
+there_resolved Nothing h = cc
+there_resolved AFileBefore h = cc
+
+seen_resolved : (d : Drafted) (c : Resident) (id : FileId) (o : Option Node) → IsDraft d → IsSound c → seen d c (name.Entry id) ≡ o → unresolved (standing_seen o) ≡ None
+seen_resolved d c id None ds cs e = refl
+seen_resolved d c id (Some n) ds cs e = there_resolved (standing_seen (Some n)) (node_there id n (seen_own d c (name.Entry id) n ds cs e))
+
+same_parent : (a b p q : FileId) → At a p ≡ At b q → p ≡ q
+same_parent a b p q e = cc
+
+pub source_in : (d : Drafted) (c : Resident) (from to : List (List ℕ)) (id dir : FileId) → Follows d c from (At id dir) → AreInSight d c (At id dir) → IsDraft d → IsSound c → 0 < length from → is_front from to ≡ false → IsSource d c from to (In dir)
+source_in d c from to id dir follows sight ds cs some front = (
+  sight.1,
+  some,
+  front,
+  λ key met old new pic.
+      let on = λ (more : List (List ℕ)) (found : Found) (r : Resolves new key (from ++ more) found). (follows key met old new more found pic r).0 in (
+        ap unresolved (meets_so d c from (At id dir) (met_seen d c (At id dir)) follows sight refl key met old new pic) ∙ seen_resolved d c id (seen d c (name.Entry id)) ds cs refl,
+        λ other out r. same_parent other id out dir (ended new key id dir (At other out) (on [] (At other out) (subst (λ l. Resolves new key l (At other out)) (sym (append-nil from)) r))),
+        (id, (comes key met d c old new pic from (At id dir) on).0),
+      ),
+)
+
+-- the checks of a move, by what the path is seen as
+seen_move : (met : List (List ℕ) → Seen) (from : List (List ℕ)) (s : Seen) (front : Bool) (rest : Option PlainError) → 0 < length from → met from ≡ s → move_checks (is_top from) (met from) front rest ≡ move_checks false s front rest
+seen_move met from s front rest some e = ap (λ t. move_checks t (met from) front rest) (not_top from some) ∙ ap (λ z. move_checks false z front rest) e
+
+pub source_not : (d : Drafted) (c : Resident) (from to : List (List ℕ)) (r : Found) (e : PlainError) → Follows d c from r → AreInSight d c r → 0 < length from → unresolved (met_seen d c r) ≡ Some e → IsSource d c from to (Not e)
+source_not d c from to r e follows sight some check = λ key met old new pic rest.
+    seen_move met from (met_seen d c r) (is_front from to) rest some (meets_so d c from r (met_seen d c r) follows sight refl key met old new pic)
+    ∙ ap (λ o. then_error o (then_error (error_if (is_front from to) IntoSelf) rest)) check
+
+into_self : (s : Seen) (front : Bool) (rest : Option PlainError) → unresolved s ≡ None → front ≡ true → move_checks false s front rest ≡ Some IntoSelf
+into_self s front rest e f = ap (λ o. then_error o (then_error (error_if front IntoSelf) rest)) e ∙ ap (λ b. then_error (error_if b IntoSelf) rest) f
+
+pub source_below : (d : Drafted) (c : Resident) (from to : List (List ℕ)) (id dir : FileId) → Follows d c from (At id dir) → AreInSight d c (At id dir) → IsDraft d → IsSound c → 0 < length from → is_front from to ≡ true → IsSource d c from to (Not IntoSelf)
+source_below d c from to id dir follows sight ds cs some front = λ key met old new pic rest.
+    let s = met_seen d c (At id dir) in
+    seen_move met from s (is_front from to) rest some (meets_so d c from (At id dir) s follows sight refl key met old new pic)
+    ∙ into_self s (is_front from to) rest (seen_resolved d c id (seen d c (name.Entry id)) ds cs refl) front
+
+pub moves_on : (met : List (List ℕ) → Seen) (from to : List (List ℕ)) (rest : Option PlainError) → 0 < length from → unresolved (met from) ≡ None → is_front from to ≡ false → move_checks (is_top from) (met from) (is_front from to) rest ≡ rest
+moves_on met from to rest some e f =
+    seen_move met from (met from) (is_front from to) rest some refl ∙ (ap (λ o. then_error o (then_error (error_if (is_front from to) IntoSelf) rest)) e ∙ ap (λ b. then_error (error_if b IntoSelf) rest) f)
+
+-- ---- a row in hand gets another name
+
+-- what a node says by itself, under another name
+relabel : List ℕ → Local → Local
+relabel anew (FolderAt id label less more inside) = FolderAt id anew less more inside
+relabel anew (LeafAt id label less more size counter even) = LeafAt id anew less more size counter even
+relabel anew (SplitAt file level index low high) = SplitAt file level index low high
+
+row_relabel : (id : ℕ) (label anew : List ℕ) (x : Content) → option_map (relabel anew) (local (entry_of id label x Absent Absent)) ≡ local (entry_of id anew x Absent Absent)
+unfolding relabel
+row_relabel id label anew (Directory inside) = refl
+row_relabel id label anew (File size counter versions) = refl
+
+entry_relabel : (i : FileId) (other anew : List ℕ) (b : Body) → relabel anew (entry_local (record { id = i; name = other; left = None; right = None; body = b }) b) ≡ entry_local (record { id = i; name = anew; left = None; right = None; body = b }) b
+unfolding relabel
+entry_relabel i other anew (body.Dir top) = refl
+entry_relabel i other anew (body.File size counter versions) = refl
+
+like_by : (id : ℕ) (label other : List ℕ) (x : Content) (i : FileId) (b : Body) → local (entry_of id label x Absent Absent) ≡ Some (entry_local (record { id = i; name = other; left = None; right = None; body = b }) b)
+    → (anew : List ℕ) → local (entry_of id anew x Absent Absent) ≡ Some (entry_local (record { id = i; name = anew; left = None; right = None; body = b }) b)
+like_by id label other x i b h anew = sym (row_relabel id label anew x) ∙ (ap (option_map (relabel anew)) h ∙ ap Some (entry_relabel i other anew b))
+
+abbrev pub alone : EntryFields → List ℕ → EntryFields
+alone e label = record { id = e.id; name = label; left = None; right = None; body = e.body }
+
+like_renamed : (x : Row) (e : EntryFields) (label : List ℕ) → IsRowNode x e → IsRowNode (renamed label x) (alone e label)
+like_renamed x e label h = like_by x.id x.name e.name x.content e.id e.body h label
+
+holds_renamed : (old new : Shown) (x : Row) (label : List ℕ) (d : Drafted) (c : Resident) → Holding old new (Some x) d c → Holding old new (Some (renamed label x)) d c
+holds_renamed old new x label d c h = record {
+  before = h.before;
+  nodes = h.nodes;
+  hashes = h.hashes;
+  parents = h.parents;
+  tied = h.tied;
+  hangs = h.hangs;
+  gone = h.gone;
+  away = h.away;
+  resident = h.resident;
+  out = h.out;
+}
+
+in_hand : (key : List ℕ) (into : FileId) (label : List ℕ) (x : Row) (others : List Row) (old mid : Shown) (d : Drafted) (c : Resident) → IsTree old → IsRooted old → IsTree mid → Holding old mid (Some x) d c → HasRows mid key into others → ListedInHand key into (renamed label x) d c old mid others
+in_hand key into label x others old mid d c was rooted is hand has = record { was = was; rooted = rooted; is = is; hand = holds_renamed old mid x label d c hand; rows_are = has }
+
+unset_by : (d : Drafted) (c : Resident) (old new : Shown) (n : Name) (o : Option Change) → Drafts old new d c → drafted d n ≡ o → held c n ≡ None → IsSome (old n) → o ≡ None
+unset_by d c old new n None p e absent lived = refl
+unset_by d c old new n (Some change) p e absent lived = elim (p.resident n change e) [ inl s ↦ cc | inr z ↦ cc ]
+
+any_row : Row
+any_row = record { id = 0; name = []; content = Directory Absent }
+
+module _ (key : List ℕ) (out : FileId) (name : List ℕ) (into : FileId) (label : List ℕ) (d e : Drafted) (c : Resident) (entry : EntryFields)
+    (removed : (old new made : Shown) (x : Row) (rows : List Row) → Listed key out d c old new rows → Any (λ r. r ≡ x) rows → x.name ≡ name → IsTree made → IsCountable made
+    → Rearranges new made key out rows (without (is_named name) rows) → Holding old made (Some x) e c × IsRowNode x entry × HoldsTrue old c entry) where
+  taken : (old new mid : Shown) (x : Row) (rows : List Row) → IsTree old → IsTree new → Drafts old new d c → Takes key out name x rows new mid → Holding old mid (Some x) e c × IsRowNode x entry × HoldsTrue old c entry
+  taken old new mid x rows was is drafts t = removed old new mid x rows (record { was = was; is = is; drafts = drafts; rows_are = t.has }) t.among t.named t.tree t.countable t.arranges
+
+  pub carries : (f : Drafted) (node : EntryFields) → node ≡ alone entry label
+      → ((old new made : Shown) (x : Row) (rows : List Row) → ListedInHand key into x e c old new rows → IsRowNode x node → HoldsTrue old c node → IsTree made → IsCountable made → Rearranges new made key into rows (put (before x.name) x rows) → Drafts old made f c)
+      → (old new mid made : Shown) (x : Row) (rows others : List Row) → IsTree old → IsTree new → Drafts old new d c → IsRooted old → Takes key out name x rows new mid → Puts key into label x others mid made → Drafts old made f c
+  carries f node same inserted old new mid made x rows others was is drafts rooted t p =
+      let h = taken old new mid x rows was is drafts t in
+      inserted old mid made (renamed label x) others (in_hand key into label x others old mid e c was rooted t.tree h.0 p.has)
+      (subst (IsRowNode (renamed label x)) (sym same) (like_renamed x entry label h.1)) (subst (HoldsTrue old c) (sym same) h.2) p.tree p.countable p.arranges
+
+  pub carry_lacks : (short : Short) (called : List ℕ) → called ≡ label → ((x : Row) → IsShort (ListedInHand key into x e c) (along_name called key) e c into short) → IsCarryShort key out name into label d c short
+  carry_lacks (Need n w) called same lacks = inr (record {
+    absent = (lacks any_row).absent;
+    needed = λ old new mid x rows others was is drafts rooted t has.
+        let h = taken old new mid x rows was is drafts t in
+        let l = lacks (renamed label x) in
+        let k = l.needed old mid others (in_hand key into label x others old mid e c was rooted t.tree h.0 has) in
+        (unset_by d c old new n (drafted d n) drafts refl l.absent k.1.lived, subst (λ m. IsMet into (along_name m key others) n) same k.0, k.1);
+  })
+  carry_lacks NoMemory called same lacks = tt
+
+-- ---- what a renaming lacks
+
+pub trail_lacks : (key : List ℕ) (from to names : List (List ℕ)) (d : Drafted) (c : Resident) (e : Short) → ((t : Shown) (n : Name) → IsOnTrail key names t n → IsMoved key from to t n) → IsPathLack key every (IsOnTrail key names) d c e → IsMoveShort key from to d c e
+trail_lacks key from to names d c (Need n x) f h = inl (record {
+  unset = h.unset;
+  absent = h.absent;
+  needed = λ met old new pic m. let w = h.needed met old new pic tt in (f new n w.0, w.1);
+})
+trail_lacks key from to names d c NoMemory f h = tt
+
+pub move_lacks : (key : List ℕ) (from to : List (List ℕ)) (out into : FileId) (d : Drafted) (c : Resident) (e : Short) → IsSource d c from to (In out) → IsPlace d c to (In into) → IsCarryShort key out (last from) into (last to) d c e → IsMoveShort key from to d c e
+move_lacks key from to out into d c (Need n x) source place h = elim h [
+  | inl k ↦ inl (record {
+    unset = k.unset;
+    absent = k.absent;
+    needed = λ met old new pic m.
+        let same = (source.3 key met old new pic).1 m.id m.out m.leads in
+        let has = subst (λ i. HasRows new key i m.rows) same m.takes.has in
+        let w = k.needed old new m.rows (listed out m.rows pic has) in
+        (inr (inr (record { id = m.id; dir = out; rows = m.rows; leads = subst (λ i. Resolves new key from (At m.id i)) same m.leads; has = has; met = w.0 })), w.1);
+  })
+  | inr k ↦ inr (record {
+    absent = k.absent;
+    needed = λ met old new pic m there beyond others leads has.
+        let same = (source.3 key met old new pic).1 m.id m.out m.leads in
+        let here = (place.2 key met old new pic).one there beyond leads in
+        let w = k.needed old new m.mid m.row m.rows others pic.was pic.is pic.drafts m.rooted (subst (λ i. Takes key i (last from) m.row m.rows new m.mid) same m.takes) (subst (λ i. HasRows m.mid key i others) here has) in
+        (w.0, subst (λ i. IsMet i (along_name (last to) key others) n) (sym here) w.1, w.2);
+  })
+]
+move_lacks key from to out into d c NoMemory source place h = tt
+
+-- the checks of the new name are the last of a move's
+pub rest_of_checks : (key : List ℕ) (met : List (List ℕ) → Seen) (from to : List (List ℕ)) (out : FileId) (d : Drafted) (c : Resident) (old new : Shown) (rest : Option PlainError) → IsSource d c from to (In out) → Pictured key met d c old new
+    → move_checks (is_top from) (met from) (is_front from to) rest ≡ rest
+rest_of_checks key met from to out d c old new rest source pic = moves_on met from to rest source.1 (source.3 key met old new pic).0 source.2
+
+pub moves : (key : List ℕ) (from to : List (List ℕ)) (out into : FileId) (d e : Drafted) (c : Resident) → IsSource d c from to (In out) → IsPlace d c to (In into) → (label other : List ℕ) → label ≡ last from → other ≡ last to
+    → ((old new mid made : Shown) (x : Row) (rows others : List Row) → IsTree old → IsTree new → Drafts old new d c → IsRooted old → Takes key out label x rows new mid → Puts key into other x others mid made → Drafts old made e c)
+    → (met : List (List ℕ) → Seen) (old new mid made : Shown) (id gone there beyond : FileId) (x : Row) (rows others : List Row) → Pictured key met d c old new → IsRooted old → Resolves new key from (At id gone) → Resolves new key (parent to) (At there beyond)
+    → Takes key gone (last from) x rows new mid → Puts key there (last to) x others mid made → Drafts old made e c
+moves key from to out into d e c source place label other is was carried met old new mid made id gone there beyond x rows others pic rooted leads leads2 takes puts =
+    let same = (source.3 key met old new pic).1 id gone leads in
+    let here = (place.2 key met old new pic).one there beyond leads2 in
+    carried old new mid made x rows others pic.was pic.is pic.drafts rooted (subst (λ m. Takes key out m x rows new mid) (sym is) (subst (λ i. Takes key i (last from) x rows new mid) same takes))
+    (subst (λ m. Puts key into m x others mid made) (sym was) (subst (λ i. Puts key i (last to) x others mid made) here puts))
