@@ -13,3 +13,5 @@ pub mod CountsUp
 pub mod CountsSet
 pub mod Refills
 pub mod Rowed
+pub mod HeldHashes
+pub mod Insertions
