@@ -165,23 +165,20 @@ top_beaten prio i x t e h y l m is = ap (λ j. beats prio j y.id) (sym e) ∙ su
 -- ---- treaps that are made of another and of known rows
 
 module _ (known : Name → Type 0) (home : Treap Row) where
-  pub Built : Treap Row → Type 0
+  abbrev pub Built : Treap Row → Type 0
   Built Empty = Unit {0}
   Built (Over y l m) = (IsWithin (Over y l m) home ⊎ known (entry_name y)) × Built l × Built m
 
   pub built_within : (t : Treap Row) → ((v : Treap Row) → IsWithin v t → IsWithin v home) → Built t
-  unfolding Built
   built_within Empty f = tt
   built_within (Over y l m) f = (inl (f (Over y l m) (inl refl)), built_within l (λ v w. f v (inr (inl w))), built_within m (λ v w. f v (inr (inr w))))
 
   low_by : (p : Row → Bool) (y : Row) (l m : Treap Row) (b : Bool) → known (entry_name y) → Built l → (Each (λ z. known (entry_name z)) (way p l) → Built (low p l)) → (Each (λ z. known (entry_name z)) (way p m) → Built (low p m))
       → Each (λ z. known (entry_name z)) (cond b (way p m) (way p l)) → Built (cond b (Over y l (low p m)) (low p l))
-  unfolding Built
   low_by p y l m true k bl fl fm h = (inr k, bl, fm h)
   low_by p y l m false k bl fl fm h = fl h
 
   pub built_low : (p : Row → Bool) (t : Treap Row) → ((v : Treap Row) → IsWithin v t → IsWithin v home) → Each (λ z. known (entry_name z)) (way p t) → Built (low p t)
-  unfolding Built
   built_low p Empty f h = tt
   built_low p (Over y l m) f h =
       let gl = λ (v : Treap Row) (w : IsWithin v l). f v (inr (inl w)) in
@@ -190,12 +187,10 @@ module _ (known : Name → Type 0) (home : Treap Row) where
 
   high_by : (p : Row → Bool) (y : Row) (l m : Treap Row) (b : Bool) → known (entry_name y) → Built m → (Each (λ z. known (entry_name z)) (way p l) → Built (high p l)) → (Each (λ z. known (entry_name z)) (way p m) → Built (high p m))
       → Each (λ z. known (entry_name z)) (cond b (way p m) (way p l)) → Built (cond b (high p m) (Over y (high p l) m))
-  unfolding Built
   high_by p y l m true k bm fl fm h = fm h
   high_by p y l m false k bm fl fm h = (inr k, fl h, bm)
 
   pub built_high : (p : Row → Bool) (t : Treap Row) → ((v : Treap Row) → IsWithin v t → IsWithin v home) → Each (λ z. known (entry_name z)) (way p t) → Built (high p t)
-  unfolding Built
   built_high p Empty f h = tt
   built_high p (Over y l m) f h =
       let gl = λ (v : Treap Row) (w : IsWithin v l). f v (inr (inl w)) in
@@ -203,7 +198,6 @@ module _ (known : Name → Type 0) (home : Treap Row) where
       high_by p y l m (p y) h.0 (built_within m gm) (built_high p l gl) (built_high p m gm) h.1
 
   around_by : (row : Row) (other t : Treap Row) (b : Bool) → known (entry_name row) → Built other → Built t → Built (cond b (Over row other t) (Over row t other))
-  unfolding Built
   around_by row other t true k bo bt = (inr k, bo, bt)
   around_by row other t false k bo bt = (inr k, bt, bo)
 
@@ -221,7 +215,6 @@ module _ (known : Name → Type 0) (home : Treap Row) where
 
   -- what is built in the place of what stood at the end of a way of known rows
   pub built_around : (forks : List Fork) (was now : Treap Row) → ((v : Treap Row) → IsWithin v (around forks was) → IsWithin v home) → Each (λ s. known (entry_name s.row)) forks → Built now → Built (around forks now)
-  unfolding Built
   built_around [] was now f k b = b
   built_around (s ∷ ss) was now f k b =
       built_around ss (forked s was) (forked s now) f k.1

@@ -15,3 +15,5 @@ pub mod Refills
 pub mod Rowed
 pub mod HeldHashes
 pub mod Insertions
+pub mod Grafting
+pub mod Implanting
