@@ -210,7 +210,7 @@ module _ (key : List ℕ) (dir : FileId) (x : Row) (made_node : EntryFields) (d 
 
     -- ---- the draft in the end
 
-    there_root : (top : Option Link) → dir_top (seen d c root) ≡ Some top → IsSome (seen d c root)
+    pub there_root : (top : Option Link) → dir_top (seen d c root) ≡ Some top → IsSome (seen d c root)
     there_root top h = let ts = top_seen (seen d c root) top h in some_node (seen d c root) (node.Entry ts.entry) ts.is
 
     dir_not_was : InRows root t → ⊥
@@ -236,7 +236,7 @@ module _ (key : List ℕ) (dir : FileId) (x : Row) (made_node : EntryFields) (d 
     rows_now : (q : Name) → IsRowName (rows u) q → IsRowName (put (before x.name) x xs) q
     rows_now q h = subst (λ v. IsRowName v q) (rows_treap (up key) (put (before x.name) x xs)) h
 
-    built_all : (ks js : List Crumb) (last : FileId) (at : Option Link) (r : Reached (priority key) made_node.id n old c d root t ks last at) → IsSplitWay n old c made_node.id d r.rest js → Built known_last t u
+    pub built_all : (ks js : List Crumb) (last : FileId) (at : Option Link) (r : Reached (priority key) made_node.id n old c d root t ks last at) → IsSplitWay n old c made_node.id d r.rest js → Built known_last t u
     built_all ks js last at r split =
         let R = r.rest in
         let whole = seat_is r.forks R r.walked.is r.walked.passed r.above r.below in

@@ -17,3 +17,4 @@ pub mod HeldHashes
 pub mod Insertions
 pub mod Grafting
 pub mod Implanting
+pub mod Shortages
