@@ -1,5 +1,5 @@
 -- From what a plan makes of a directory's rows to a draft whose counts above the directory lag.
-use Rattle.std.proofs.Common.{◌≡◌, ◌≢◌, ◌⊎◌, ◌==◌, inl, inr, ℕ, Bool, true, false, if◌then◌else◌, List, [], ◌∷◌, Option, Some, None, refl, ap, sym, ◌∙◌, subst, true≢false, is_some, eq-eqb}
+use Rattle.std.proofs.Common.{◌≡◌, ◌≢◌, ◌⊎◌, ◌==◌, inl, inr, ℕ, Bool, true, false, if◌then◌else◌, List, Option, Some, None, refl, ap, sym, ◌∙◌, subst, true≢false, is_some, eq-eqb}
 use Rattle.std.specs.Prelude.{IsSome}
 use Rattle.std.specs.Option.{option_map}
 use Rattle.std.proofs.lemmas.Bool.{eqb-true}
@@ -21,7 +21,6 @@ use Rattle.iris_node.specs.Unfolded.{Unfolded, Absent, Folder, Leaf, Even, Split
 use Rattle.iris_shape.specs.Order.{Rising, Distinct}
 use Rattle.iris_shape.specs.Treap.{Treap, Over, Each, rows, treap, put, without}
 use Rattle.iris_shape.proofs.Treaps.{rows_treap}
-use Rattle.iris_cache.specs.declared.draft.Change.{Change}
 use Rattle.iris_cache.specs.Resident.{Resident, held}
 use Rattle.iris_cache.specs.Drafted.{Drafted, drafted, known, seen, known_by, there_by, taken_away, set_to}
 use Rattle.iris_cache.specs.Pictures.{IsLike, IsSettled, IsHashOf, Holds, parent_after, parent_by}
@@ -31,10 +30,11 @@ use Rattle.iris_dirtree.specs.Lags.{Lags, IsUpFrom}
 use Rattle.iris_dirtree.specs.Planted.{Planted, IsOver, IsRowName, IsWithin, next, far, topped, with_top}
 use Rattle.iris_dirtree.specs.Rows.{Row, HasRows, IsFolderOf, Rearranges, IsElsewhere, has_id, row_id, row_name, row_entry, entries, below_row, refilled, arranged, up}
 use Rattle.iris_dirtree.specs.Ways.{Any, is_named}
-use Rattle.iris_dirtree.proofs.Likes.{Placed, Roof, roof, placed_rows, above_less, above_more, entry_named}
-use Rattle.iris_dirtree.proofs.Recounts.{got, is_there, never_none, one_of, like_said, said_like}
+use Rattle.iris_dirtree.proofs.Likes.{Placed, Roof, roof, placed_rows}
+use Rattle.iris_dirtree.proofs.Recounts.{got, is_there, one_of, like_said, said_like}
 use Rattle.iris_dirtree.proofs.Refills.{lies, untouched, refilled_name, lies_named, lies_up, lies_over, refilled_counts}
 use Rattle.iris_dirtree.proofs.Rowed.{IsIn, any_row, row_any, has_in, in_has, within_rows, Within, rows_within, less_within, more_within, entries_topped, placed_at, likes_at, stays_at, Stands, stands, over_at, Hung, hung_at, above_row, above_content}
+use Rattle.iris_dirtree.proofs.Moved.{each_in, distinct_same, in_put, put_in, put_here, in_without, without_in, named_self, named_same}
 use Rattle.iris_dirtree.proofs.Sizes.{never_over, none_over, over_through}
 
 -- From a list of rows to another, where a row that comes was in hand and one that goes gets into hand.
@@ -48,11 +48,34 @@ pub record Moves (before after : List Row) (from to : Option Row) : Type 0 where
 
 -- a row is put in
 pub moves_in : (p : Row → Bool) (x : Row) (rows : List Row) → Distinct row_id (put p x rows) → Moves rows (put p x rows) (Some x) None
-moves_in p x rows distinct = ?
+moves_in p x rows distinct = record {
+  same = λ a b h k e. distinct_same (put p x rows) a b distinct (put_in p x rows a h) k e;
+  comes = λ y h none. elim (in_put p x rows y h) [ inl e ↦ ap Some e | inr k ↦ absurd (true≢false (sym (has_in rows y k) ∙ none)) ];
+  came = λ y e. subst (λ z. IsIn z (put p x rows)) (one_of x y e) (put_here p x rows);
+  goes = λ y h none. absurd (true≢false (sym (has_in (put p x rows) y (put_in p x rows y h)) ∙ none));
+  went = λ y e. absurd (true≢false (sym (ap is_some e)));
+}
 
 -- a row is taken out
 pub moves_out : (x : Row) (rows : List Row) → Rising row_name rows → Distinct row_id rows → Any (λ r. r ≡ x) rows → Moves rows (without (is_named x.name) rows) None (Some x)
-moves_out x rows rising distinct in_rows = ?
+moves_out x rows rising distinct in_rows = record {
+  same = λ a b h k e. distinct_same rows a b distinct h (in_without (is_named x.name) rows b k).0 e;
+  comes = λ y h none. absurd (true≢false (sym (has_in rows y (in_without (is_named x.name) rows y h).0) ∙ none));
+  came = λ y e. absurd (true≢false (sym (ap is_some e)));
+  goes = λ y h none. ap Some (named_same rows x y rising in_rows h (named y h none (is_named x.name y) refl));
+  went = λ y e. (let f = one_of x y e in (subst (λ z. IsIn z rows) f in_rows, ap (λ z. has_id z.id (without (is_named x.name) rows)) (sym f) ∙ away (has_id x.id (without (is_named x.name) rows)) refl));
+}
+  where
+    named : (y : Row) → IsIn y rows → has_id y.id (without (is_named x.name) rows) ≡ false → (b : Bool) → is_named x.name y ≡ b → is_named x.name y ≡ true
+    named y h none true e = e
+    named y h none false e = absurd (true≢false (sym (has_in (without (is_named x.name) rows) y (without_in (is_named x.name) rows y h e)) ∙ none))
+
+    away : (b : Bool) → has_id x.id (without (is_named x.name) rows) ≡ b → has_id x.id (without (is_named x.name) rows) ≡ false
+    away true e =
+        let r = in_has (without (is_named x.name) rows) x.id e in
+        let k = in_without (is_named x.name) rows r.0 r.1 in
+        absurd (true≢false (sym (named_self x) ∙ ap (is_named x.name) (sym (distinct_same rows r.0 x distinct k.0 in_rows r.2)) ∙ k.1))
+    away false e = e
 
 -- ---- names of a table
 
@@ -191,6 +214,7 @@ module _ (old new made : Shown) (from to : Option Row) (key : List ℕ) (dir : F
       by-was : (b : Bool) → has_id dir.0 before ≡ b → has_id dir.0 before ≡ false
       by-was true h = let r = in_has before dir.0 h in absurd (never_over new is top (name.Entry (id_of r.0.id)) (over-was r.0 r.1) (ap (λ k. name.Entry (id_of k)) (sym r.2)))
       by-was false h = h
+
       by-now : (b : Bool) → has_id dir.0 after ≡ b → has_id dir.0 after ≡ false
       by-now true h = let r = in_has after dir.0 h in absurd (never_over made made_is top (name.Entry (id_of r.0.id)) (over-now r.0 r.1) (ap (λ k. name.Entry (id_of k)) (sym r.2)))
       by-now false h = h
@@ -293,9 +317,9 @@ module _ (old new made : Shown) (from to : Option Row) (key : List ℕ) (dir : F
   parent-now p n h parent = elim (fill parent.parent parent.child parent.above) [
     | inl x ↦ inl (record { parent = refilled dir.0 inside parent.parent; child = x.0; live = made-else p h ∙ ap (option_map (refilled dir.0 inside)) parent.live; above = x.1; named = x.2 ∙ parent.named })
     | inr x ↦ inr (
-      let at : top ≡ p = is.own p top parent.parent parent.live x.0 in
-      let folder : IsFolderOf dir.0 (arranged key before) (Some parent.parent) = subst (IsFolderOf dir.0 (arranged key before)) (ap new at ∙ parent.live) has.entry in
-      was-inside-row n (ap node_name (sym (x.1 (arranged key before) folder)) ∙ parent.named))
+        let at : top ≡ p = is.own p top parent.parent parent.live x.0 in
+        let folder : IsFolderOf dir.0 (arranged key before) (Some parent.parent) = subst (IsFolderOf dir.0 (arranged key before)) (ap new at ∙ parent.live) has.entry in
+        was-inside-row n (ap node_name (sym (x.1 (arranged key before) folder)) ∙ parent.named))
   ]
 
   -- what stands below a row: another row, or what is below it by itself
@@ -333,6 +357,7 @@ module _ (old new made : Shown) (from to : Option Row) (key : List ℕ) (dir : F
     where
       was-so : IsElsewhere before after p → IsParent new p n ⊎ IsBelowHand from p n
       was-so k = elim (parent-was p n k parent) [ inl x ↦ inl x | inr r ↦ absurd (no-row n h r) ]
+
       by : Place dir before after p → IsParent new p n ⊎ IsBelowHand from p n
       by (AtDir x) = was-so (subst (IsElsewhere before after) (sym x) dir-else)
       by (AtRow y k x) =
@@ -354,6 +379,7 @@ module _ (old new made : Shown) (from to : Option Row) (key : List ℕ) (dir : F
     where
       so : IsElsewhere before after p → IsParent made p n ⊎ IsBelowHand to p n
       so k = elim (parent-now p n k parent) [ inl x ↦ inl x | inr r ↦ absurd (no-row-was n h r) ]
+
       content : (y : Row) → IsIn y before → p ≡ name.Entry (id_of y.id) → node_name (below_row y.content) ≡ Some n
       content y b x =
           let v = was-row y b in
@@ -361,6 +387,7 @@ module _ (old new made : Shown) (from to : Option Row) (key : List ℕ) (dir : F
             | inl r ↦ absurd (no-row-was n h (r.0, row-was r.0 r.1.less r.1.more r.1.within, r.2))
             | inr g ↦ g
           ]
+
       by : Place dir before after p → IsParent made p n ⊎ IsBelowHand to p n
       by (AtDir x) = so (subst (IsElsewhere before after) (sym x) dir-else)
       by (AtRow y k x) = elim (row-before y k) [
@@ -420,6 +447,7 @@ module _ (old new made : Shown) (from to : Option Row) (key : List ℕ) (dir : F
       id-in (name.Entry i) = i.0
       id-in (name.Part f l i) = 0
       id-in (name.Block f k) = 0
+
       ids : {a b : ℕ} → name.Entry (id_of a) ≡ name.Entry (id_of b) → a ≡ b
       ids q = ap id-in q
 
@@ -515,6 +543,7 @@ module _ (old new made : Shown) (from to : Option Row) (key : List ℕ) (dir : F
             | inl x ↦ absurd (true≢false (sym (ap (same_name top) x ∙ same_name-refl top) ∙ off))
             | inr o ↦ absurd (free o)
           ]
+
       by : (o : Option Unfolded) → new n ≡ o → made n ≡ new n
       by None live = made-else n h ∙ ap (option_map (refilled dir.0 inside)) live ∙ sym live
       by (Some v) live = made-else n h ∙ ap (option_map (refilled dir.0 inside)) live ∙ ap Some (lying v (lies dir.0 v) live refl) ∙ sym live
@@ -589,9 +618,9 @@ module _ (old new made : Shown) (from to : Option Row) (key : List ℕ) (dir : F
   parents-all : (n p : Name) (g : Node) → seen e c n ≡ Some g → IsParent made p n → (parent_after e c n ≡ Some p) × IsSome (seen e c p)
   parents-all n p g s parent = elim (seen-place n g s) [
     | inl r ↦ (
-      let h = row-hung n g s r in
-      let same : h.from ≡ p = made_is.once n h.from p h.parent parent in
-      (h.over_is ∙ ap Some same, subst (λ m. IsSome (seen e c m)) same h.sees))
+        let h = row-hung n g s r in
+        let same : h.from ≡ p = made_is.once n h.from p h.parent parent in
+        (h.over_is ∙ ap Some same, subst (λ m. IsSome (seen e c m)) same h.sees))
     | inr k ↦ elim (parent-before p n k.elsewhere parent) [
       | inl q ↦ (let x = holding.parents n p k.node k.at_it q in (k.parent_is ∙ x.0, sees-parent p n parent x.1))
       | inr q ↦ (let y = hand-row from p n q in (k.parent_is ∙ holding.hangs n p k.node k.at_it q, sees-hand y.0 p y.1 y.2))
@@ -607,11 +636,6 @@ module _ (old new made : Shown) (from to : Option Row) (key : List ℕ) (dir : F
     ]
   ]
 
-  each-in : (P : Row → Type 0) (xs : List Row) (y : Row) → IsIn y xs → Each P xs → P y
-  each-in P [] y h a = absurd h
-  each-in P (x ∷ xs) y (inl h) a = subst P h a.0
-  each-in P (x ∷ xs) y (inr h) a = each-in P xs y h a.1
-
   hangs-all : (n p : Name) (g : Node) → seen e c n ≡ Some g → IsBelowHand to p n → parent_after e c n ≡ Some p
   hangs-all n p g s below =
       let y = hand-row to p n below in
@@ -620,8 +644,8 @@ module _ (old new made : Shown) (from to : Option Row) (key : List ℕ) (dir : F
       let parent : IsParent new p n = subst (λ m. IsParent new m n) (sym y.2) (content-parent new y.0 (entries w.less) (entries w.more) n (was-live y.0 w) y.3) in
       elim (seen-place n g s) [
         | inl r ↦ elim (row-before r.0 r.1) [
-          | inl b ↦ absurd (each-in (λ z. node_name (below_row y.0.content) ≢ Some (name.Entry (id_of z.id))) before r.0 b
-              (each-in (λ x. Each (λ z. node_name (below_row x.content) ≢ Some (name.Entry (id_of z.id))) before) before y.0 y-in has.apart) (y.3 ∙ ap Some r.2))
+          | inl b ↦ absurd (each_in (λ z. node_name (below_row y.0.content) ≢ Some (name.Entry (id_of z.id))) before r.0 b
+              (each_in (λ x. Each (λ z. node_name (below_row x.content) ≢ Some (name.Entry (id_of z.id))) before) before y.0 y-in has.apart) (y.3 ∙ ap Some r.2))
           | inr h ↦ absurd (true≢false (sym (ap is_some (sym (ap new r.2 ∙ hand-none r.0 h) ∙ is.below p n parent.parent parent.child parent.live parent.above parent.named))))
         ]
         | inr k ↦ k.parent_is ∙ (holding.parents n p k.node k.at_it parent).0
@@ -655,9 +679,9 @@ module _ (old new made : Shown) (from to : Option Row) (key : List ℕ) (dir : F
       by (AtDir x) = absurd (known-none n k (subst (λ m. IsSome (seen e c m)) (sym x) (is_there (seen e c top) top-node top-seen)))
       by (AtRow y a x) = elim (row-before y a) [
         | inl b ↦ absurd (
-          let same = missing-so y n b a x (known-none n k) in
-          let none = holding.gone n node-name (sym (known-same n same) ∙ k) in
-          true≢false (sym (ap is_some (sym none ∙ ap new x ∙ was-live y (was-row y b)))))
+            let same = missing-so y n b a x (known-none n k) in
+            let none = holding.gone n node-name (sym (known-same n same) ∙ k) in
+            true≢false (sym (ap is_some (sym none ∙ ap new x ∙ was-live y (was-row y b)))))
         | inr h ↦ absurd (known-none n k (sees-hand y n h x))
       ]
       by (AtGone y b x f) = ap made x ∙ gone-none y b f
@@ -671,11 +695,11 @@ module _ (old new made : Shown) (from to : Option Row) (key : List ℕ) (dir : F
       by (AtDir x) = absurd (known-not n k (subst (λ m. IsSome (seen e c m)) (sym x) (is_there (seen e c top) top-node top-seen)))
       by (AtRow y a x) = elim (row-before y a) [
         | inl b ↦ (
-          let same = missing-so y n b a x (known-not n k) in
-          let w = now-row y a in
-          let part = stays_at (seen e c) t u (Over y w.less w.more) planted.stays w.within (ap (seen e c) (sym x) ∙ ap there_by k) in
-          let live = placed_at new t (Over y w.less w.more) was-placed part in
-          ap made x ∙ now-live y w ∙ sym live ∙ ap new (sym x) ∙ holding.away n node-name (sym (known-same n same) ∙ k))
+            let same = missing-so y n b a x (known-not n k) in
+            let w = now-row y a in
+            let part = stays_at (seen e c) t u (Over y w.less w.more) planted.stays w.within (ap (seen e c) (sym x) ∙ ap there_by k) in
+            let live = placed_at new t (Over y w.less w.more) was-placed part in
+            ap made x ∙ now-live y w ∙ sym live ∙ ap new (sym x) ∙ holding.away n node-name (sym (known-same n same) ∙ k))
         | inr h ↦ absurd (known-not n k (sees-hand y n h x))
       ]
       by (AtGone y b x f) = absurd (true≢false (sym (ap is_some (sym k ∙ ap (λ o. known_by o (held c n)) (gone-seen y n b x f)))))

@@ -1,5 +1,5 @@
 -- On the way up from a child whose count may have changed.
-use Rattle.std.proofs.Common.{◌≡◌, ◌⊎◌, ◌||◌, ◌+◌, inl, inr, ℕ, zero, suc, Bool, true, false, Option, Some, None, refl, ap, sym, ◌∙◌, subst, arith, length, true≢false}
+use Rattle.std.proofs.Common.{◌≡◌, ◌⊎◌, ◌||◌, ◌+◌, inl, inr, ℕ, suc, Bool, true, false, Option, Some, refl, ap, sym, ◌∙◌, subst, length, true≢false}
 use Rattle.std.specs.Prelude.{IsSome}
 use Rattle.iris_name.specs.Names.{same_name}
 use Rattle.iris_name.specs.NameLaws.{same_name-true, same_name-refl}
@@ -44,11 +44,11 @@ or-right : (a b : Bool) → b ≡ true → (a || b) ≡ true
 or-right true b h = refl
 or-right false b h = h
 
-or-split : (a b : Bool) → (a || b) ≡ true → (a ≡ true) ⊎ (b ≡ true)
+pub or-split : (a b : Bool) → (a || b) ≡ true → (a ≡ true) ⊎ (b ≡ true)
 or-split true b h = inl refl
 or-split false b h = inr h
 
-step-up : (over : Name → Option Name) (k : ℕ) (at p q : Name) → over at ≡ Some p → above over k (Some p) q ≡ true → above over (suc k) (Some at) q ≡ true
+pub step-up : (over : Name → Option Name) (k : ℕ) (at p q : Name) → over at ≡ Some p → above over k (Some p) q ≡ true → above over (suc k) (Some at) q ≡ true
 step-up over k at p q e m = or-right (same_name at q) (above over k (over at) q) (ap (λ o. above over k o q) e ∙ m)
 
 step-left : (made : Shown) (over : Name → Option Name) (most k : ℕ) (start at p : Name) → over at ≡ Some p → IsParent made p at → Left made over most (suc k) start at → Left made over most k start p
@@ -79,7 +79,7 @@ pub ends : (d : Drafted) (c : Resident) (start : Name) (most k : ℕ) (e : Draft
     → (old new made : Shown) (hand : Option Row) → IsTree made → IsCountable made → Lags old new made hand start d c → Holding old made hand e c
 ends d c start most k e at so none old new made hand tree countable lags = topmost old new made hand at e c ((so.lags old new made hand tree countable lags).0) none
 
-at-parent : (over : Name → Option Name) (at p : Name) → over at ≡ Some p → above over 2 (Some at) p ≡ true
+pub at-parent : (over : Name → Option Name) (at p : Name) → over at ≡ Some p → above over 2 (Some at) p ≡ true
 at-parent over at p e = or-right (same_name at p) (above over 1 (over at) p) (ap (λ o. above over 1 o p) e ∙ ap (λ b. b || above over 0 (over p) p) (same_name-refl p))
 
 -- after as many steps as there are names the way is at its end
@@ -90,6 +90,7 @@ runs_out d c start most e at enough so old new made hand tree countable lags = t
   where
     x : Lags old new made hand at e c × Left made (parent_after d c) most 0 start at
     x = so.lags old new made hand tree countable lags
+
     none : (p : Name) → parent_after e c at ≡ Some p → IsSome (seen e c p) → ⊥
     none p up sees =
         let parent = parent_made old new made hand at p e c tree x.0 up sees in

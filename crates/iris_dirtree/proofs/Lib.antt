@@ -18,3 +18,7 @@ pub mod Insertions
 pub mod Grafting
 pub mod Implanting
 pub mod Shortages
+pub mod Moved
+pub mod Handed
+pub mod Rights
+pub mod Finishing

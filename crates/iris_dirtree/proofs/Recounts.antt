@@ -1,5 +1,5 @@
 -- One step up of setting counts right.
-use Rattle.std.proofs.Common.{◌≡◌, ◌⊎◌, ◌+◌, ◌/◌, ◌<◌, ◌^◌, inl, inr, ℕ, Bool, true, false, if◌then◌else◌, Option, Some, None, refl, ap, sym, ◌∙◌, subst, arith, true≢false, is_some}
+use Rattle.std.proofs.Common.{◌≡◌, ◌⊎◌, ◌+◌, ◌/◌, ◌<◌, ◌^◌, inl, inr, ℕ, Bool, true, false, Option, Some, None, refl, ap, sym, ◌∙◌, subst, true≢false, is_some}
 use Rattle.std.specs.Prelude.{IsSome, unwrap_or as option_unwrap_or}
 use Rattle.std.specs.Option.{option_map}
 use Rattle.iris_name.specs.Names.{same_name}
@@ -7,24 +7,22 @@ use Rattle.iris_name.specs.NameLaws.{same_name-true, same_name-refl}
 use Rattle.iris_name.specs.declared.name.FileId.{FileId}
 use Rattle.iris_name.specs.declared.name.Hash32.{Hash32}
 use Rattle.iris_name.specs.declared.name.Name.{Name}
-use Rattle.iris_name.specs.declared.name.Name.TheVariants as name
 use Rattle.iris_node.specs.declared.node.Link.{Link}
-use Rattle.iris_node.specs.declared.node.Side.{Side}
 use Rattle.iris_node.specs.declared.node.Body.{Body}
 use Rattle.iris_node.specs.declared.node.Body.TheVariants.{Dir, File}
 use Rattle.iris_node.specs.declared.node.Node.{Node}
 use Rattle.iris_node.specs.declared.node.Node.TheVariants.{Entry, Part}
 use Rattle.iris_node.specs.Fields.{EntryFields}
-use Rattle.iris_node.specs.Local.{Lead, Local, FolderAt, LeafAt, SplitAt, local, local_of, entry_local, led, led_by, even_by}
-use Rattle.iris_node.specs.Rules.{IsEntry, IsLinked, IsBody, IsRoot, IsDir}
+use Rattle.iris_node.specs.Local.{Local, FolderAt, LeafAt, local, local_of, entry_local, led, led_by, even_by}
+use Rattle.iris_node.specs.Rules.{IsEntry, IsLinked, IsBody, IsDir}
 use Rattle.iris_node.specs.Trees.{Shown, IsTree, IsParent, IsNodeName, said}
-use Rattle.iris_node.specs.Unfolded.{Unfolded, Absent, Folder, Leaf, Even, Split, Stored, id_of, blocks}
+use Rattle.iris_node.specs.Unfolded.{Unfolded, Absent, Folder, Leaf, Even, Split, Stored, blocks}
 use Rattle.iris_cache.specs.declared.held.Held.{Held}
 use Rattle.iris_cache.specs.declared.draft.Change.{Change}
 use Rattle.iris_cache.specs.Resident.{Resident, held}
 use Rattle.iris_cache.specs.Drafted.{Drafted, drafted, known, seen, known_by, there_by}
-use Rattle.iris_cache.specs.Pictures.{IsLike, IsSettled, IsHashOf, Holds, LinkHolds, BodyHolds, parent_after}
-use Rattle.iris_dirtree.specs.Counts.{count_of, lead_count, said_count, counted_lead, counted, counted_link, counted_body, counted_entry, counted_node, Recounts}
+use Rattle.iris_cache.specs.Pictures.{IsLike, Holds, LinkHolds, BodyHolds, parent_after}
+use Rattle.iris_dirtree.specs.Counts.{count_of, lead_count, said_count, counted_lead, counted, counted_link, counted_body, counted_entry, counted_node, IsCounted, Recounts}
 use Rattle.iris_dirtree.specs.Hands.{Holding, IsBelowHand, IsOut}
 use Rattle.iris_dirtree.specs.Lags.{Lags, IsUpFrom}
 use Rattle.iris_dirtree.specs.Planted.{IsOver, next, far}
@@ -71,6 +69,10 @@ local-count (Leaf id label less more length counter versions) l e = sym (ap (λ 
 local-count (Even version) l e = absurd (true≢false (sym (ap is_some e)))
 local-count (Split file level index low high) l e = ap (λ (o : Option Local). said_count (option_unwrap_or o l)) e
 local-count (Stored version bytes) l e = absurd (true≢false (sym (ap is_some e)))
+
+pub said_counted : (o : Option Unfolded) (l : Local) → said o ≡ Some l → count_of o ≡ said_count l
+said_counted None l h = absurd (true≢false (sym (ap is_some h)))
+said_counted (Some u) l h = local-count u l h
 
 pub like_count : (o : Option Unfolded) (k : Node) → IsLike o k → count_of o ≡ said_count (local_of k)
 like_count None k h = absurd h
@@ -171,8 +173,13 @@ module _ (old new made : Shown) (hand : Option Row) (at p : Name) (d e : Drafted
 
   up-like : IsLike (made p) (counted_node at count was.0)
   up-like = said_like (made p) (counted_node at count was.0) (
-    lags.counts p at parent (inl refl) ∙ ap (λ k. option_map (counted at k) (said (new p))) count-is
-    ∙ ap (option_map (counted at count)) (like_said (new p) was.0 (lags.above p was.0 was.1 (next p at parent))) ∙ ap Some (sym (node_counted at count was.0)))
+      lags.counts p at parent (inl refl) ∙ ap (λ k. option_map (counted at k) (said (new p))) count-is
+      ∙ ap (option_map (counted at count)) (like_said (new p) was.0 (lags.above p was.0 was.1 (next p at parent))) ∙ ap Some (sym (node_counted at count was.0)))
+
+  says : IsCounted at p d c → said (made p) ≡ said (new p)
+  says right =
+      like_said (made p) (counted_node at count was.0) up-like ∙ ap (λ k. Some (local_of k)) (right child.0 was.0 child.1 few was.1)
+      ∙ sym (like_said (new p) was.0 (lags.above p was.0 was.1 (next p at parent)))
 
   record From (n : Name) (k : Node) : Type 0 where
     node : Node
@@ -254,6 +261,11 @@ module _ (old new made : Shown) (hand : Option Row) (at p : Name) (d e : Drafted
     out = lags.out;
   }
 
+-- where the parent has the child's count already, it says in the new table what it said
+pub right_said : (old new made : Shown) (hand : Option Row) (at p : Name) (d e : Drafted) (c : Resident) → IsTree made → IsCountable made → Lags old new made hand at d c → IsParent made p at
+    → IsSome (seen d c p) → Recounts at p d e c → IsCounted at p d c → said (made p) ≡ said (new p)
+right_said old new made hand at p d e c tree countable lags parent sees step right = says old new made hand at p d e c tree countable lags parent sees step right
+
 -- counts lag no more above the parent
 pub climbed : (old new made : Shown) (hand : Option Row) (at p : Name) (d e : Drafted) (c : Resident) → IsTree made → IsCountable made → Lags old new made hand at d c → IsParent made p at
     → IsSome (seen d c p) → Recounts at p d e c → Lags old new made hand p e c
@@ -264,9 +276,14 @@ pub hand_unseen : (hand : Option Row) (made : Shown) (p n : Name) (k : Node) →
 hand_unseen None made p n k out below like = below
 hand_unseen (Some x) made p n k out below like = subst (λ o. IsLike o k) (ap made below.0 ∙ out) like
 
-over-top : (t : Shown) (n q : Name) → IsOver t n q → (p : Name) × IsParent t p q
-over-top t _ _ (next p n h) = (p, h)
-over-top t _ _ (far p q n h o) = (q, h)
+pub over_top : (t : Shown) (n q : Name) → IsOver t n q → (p : Name) × IsParent t p q
+over_top t _ _ (next p n h) = (p, h)
+over_top t _ _ (far p q n h o) = (q, h)
+
+-- a row in hand isn't live
+pub out_none : (g : Option Row) (t : Shown) (p n : Name) → IsBelowHand g p n → IsOut g t → t p ≡ None
+out_none None t p n below out = absurd below
+out_none (Some x) t p n below out = ap t below.0 ∙ out
 
 -- the parent that is seen of a child that is seen is its parent in the table
 pub parent_made : (old new made : Shown) (hand : Option Row) (at p : Name) (d : Drafted) (c : Resident) → IsTree made → Lags old new made hand at d c → parent_after d c at ≡ Some p → IsSome (seen d c p) → IsParent made p at
@@ -274,11 +291,9 @@ parent_made old new made hand at p d c tree lags up sees =
     let k = got (seen d c at) lags.there in
     elim (lags.tied at p k.0 k.1 up) [ inl x ↦ x | inr below ↦ absurd (by (got (seen d c p) sees) below) ]
   where
-    out-none : (g : Option Row) → IsBelowHand g p at → IsOut g made → made p ≡ None
-    out-none None below out = absurd below
-    out-none (Some x) below out = ap made below.0 ∙ out
     none-over : IsBelowHand hand p at → IsOver made p at → ⊥
-    none-over below o = none_over made tree p at (out-none hand below lags.out) o
+    none-over below o = none_over made tree p at (out_none hand made p at below lags.out) o
+
     by : (k : Node) × (seen d c p ≡ Some k) → IsBelowHand hand p at → ⊥
     by k below = hand_unseen hand made p at k.0 lags.out below (lags.nodes p k.0 k.1 (none-over below))
 
@@ -286,7 +301,7 @@ parent_made old new made hand at p d c tree lags up sees =
 pub topmost : (old new made : Shown) (hand : Option Row) (at : Name) (d : Drafted) (c : Resident) → Lags old new made hand at d c → ((p : Name) → parent_after d c at ≡ Some p → IsSome (seen d c p) → ⊥) → Holding old made hand d c
 topmost old new made hand at d c lags none =
     let k = got (seen d c at) lags.there in
-    let free : (n : Name) → IsOver made n at → ⊥ = λ n o. (let q = over-top made n at o in let x = lags.parents at q.0 k.0 k.1 q.1 in none q.0 x.0 x.1) in
+    let free : (n : Name) → IsOver made n at → ⊥ = λ n o. (let q = over_top made n at o in let x = lags.parents at q.0 k.0 k.1 q.1 in none q.0 x.0 x.1) in
     record {
       before = lags.before;
       nodes = λ n g s. lags.nodes n g s (free n);

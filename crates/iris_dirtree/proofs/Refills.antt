@@ -1,13 +1,12 @@
 -- A node in which a directory has something else inside: what changes lies above that directory.
-use Rattle.std.proofs.Common.{◌≡◌, ◌⊎◌, ◌||◌, ◌==◌, ◌+◌, ◌/◌, inl, inr, ℕ, Bool, true, false, if◌then◌else◌, List, Option, Some, None, refl, ap, sym, ◌∙◌, subst, true≢false, is_some}
+use Rattle.std.proofs.Common.{◌≡◌, ◌⊎◌, ◌||◌, ◌==◌, inl, inr, ℕ, Bool, true, false, if◌then◌else◌, List, Some, refl, ap, sym, ◌∙◌, subst, true≢false, is_some}
 use Rattle.std.specs.Option.{option_map}
 use Rattle.std.proofs.lemmas.Bool.{eqb-true}
 use Rattle.iris_name.specs.Names.{same_name}
 use Rattle.iris_name.specs.NameLaws.{same_name-true, same_name-refl}
-use Rattle.iris_name.specs.declared.name.FileId.{FileId}
 use Rattle.iris_name.specs.declared.name.Name.{Name}
 use Rattle.iris_name.specs.declared.name.Name.TheVariants as name
-use Rattle.iris_node.specs.Local.{Lead, Local, FolderAt, LeafAt, local, led, even}
+use Rattle.iris_node.specs.Local.{FolderAt, LeafAt, local, led, even}
 use Rattle.iris_node.specs.Trees.{Shown, IsTree, IsParent, IsAbove, node_name}
 use Rattle.iris_node.specs.Unfolded.{Unfolded, Absent, Folder, Leaf, Even, Split, Stored, id_of, blocks}
 use Rattle.iris_dirtree.specs.Counts.{count_of, counted, counted_lead}
@@ -183,16 +182,16 @@ module _ (t : Shown) (tree : IsTree t) (i : ℕ) (inside : Unfolded) where
       let u = refilled i inside (Folder id label less more kept) in
       let k = count_of (t q) in
       let a = lead_counted q less (λ m e. tree.below p m u (refilled i inside less) live (inl refl) (refilled_name i inside less ∙ e))
-          (λ m e l. one_child (name.Entry (id_of i)) p m q (record { parent = u; child = refilled i inside less; live = live; above = inl refl; named = refilled_name i inside less ∙ e }) parent
-          (lies_up less m l e (tree.below p m u (refilled i inside less) live (inl refl) (refilled_name i inside less ∙ e))) up) in
+      (λ m e l. one_child (name.Entry (id_of i)) p m q (record { parent = u; child = refilled i inside less; live = live; above = inl refl; named = refilled_name i inside less ∙ e }) parent
+      (lies_up less m l e (tree.below p m u (refilled i inside less) live (inl refl) (refilled_name i inside less ∙ e))) up) in
       let b = lead_counted q more (λ m e. tree.below p m u (refilled i inside more) live (inr (inl refl)) (refilled_name i inside more ∙ e))
-          (λ m e l. one_child (name.Entry (id_of i)) p m q (record { parent = u; child = refilled i inside more; live = live; above = inr (inl refl); named = refilled_name i inside more ∙ e }) parent
-          (lies_up more m l e (tree.below p m u (refilled i inside more) live (inr (inl refl)) (refilled_name i inside more ∙ e))) up) in
+      (λ m e l. one_child (name.Entry (id_of i)) p m q (record { parent = u; child = refilled i inside more; live = live; above = inr (inl refl); named = refilled_name i inside more ∙ e }) parent
+      (lies_up more m l e (tree.below p m u (refilled i inside more) live (inr (inl refl)) (refilled_name i inside more ∙ e))) up) in
       let f : (id == i) ≡ false = other id p named apart in
       let g : (if id == i then inside else refilled i inside kept) ≡ refilled i inside kept = ap (λ z. if z then inside else refilled i inside kept) f in
       let c = lead_counted q kept (λ m e. tree.below p m u (refilled i inside kept) live (inr (inr (sym g))) (refilled_name i inside kept ∙ e))
-          (λ m e l. one_child (name.Entry (id_of i)) p m q (record { parent = u; child = refilled i inside kept; live = live; above = inr (inr (sym g)); named = refilled_name i inside kept ∙ e }) parent
-          (lies_up kept m l e (tree.below p m u (refilled i inside kept) live (inr (inr (sym g))) (refilled_name i inside kept ∙ e))) up) in
+      (λ m e l. one_child (name.Entry (id_of i)) p m q (record { parent = u; child = refilled i inside kept; live = live; above = inr (inr (sym g)); named = refilled_name i inside kept ∙ e }) parent
+      (lies_up kept m l e (tree.below p m u (refilled i inside kept) live (inr (inr (sym g))) (refilled_name i inside kept ∙ e))) up) in
       let h = ap led g ∙ c in
       λ x. Some (FolderAt id label (a x) (b x) (h x))
     where
@@ -205,11 +204,11 @@ module _ (t : Shown) (tree : IsTree t) (i : ℕ) (inside : Unfolded) where
   refilled_counts (Leaf id label less more length counter versions) p q live named apart parent up =
       let u = refilled i inside (Leaf id label less more length counter versions) in
       let a = lead_counted q less (λ m e. tree.below p m u (refilled i inside less) live (inl refl) (refilled_name i inside less ∙ e))
-          (λ m e l. one_child (name.Entry (id_of i)) p m q (record { parent = u; child = refilled i inside less; live = live; above = inl refl; named = refilled_name i inside less ∙ e }) parent
-          (lies_up less m l e (tree.below p m u (refilled i inside less) live (inl refl) (refilled_name i inside less ∙ e))) up) in
+      (λ m e l. one_child (name.Entry (id_of i)) p m q (record { parent = u; child = refilled i inside less; live = live; above = inl refl; named = refilled_name i inside less ∙ e }) parent
+      (lies_up less m l e (tree.below p m u (refilled i inside less) live (inl refl) (refilled_name i inside less ∙ e))) up) in
       let b = lead_counted q more (λ m e. tree.below p m u (refilled i inside more) live (inr (inl refl)) (refilled_name i inside more ∙ e))
-          (λ m e l. one_child (name.Entry (id_of i)) p m q (record { parent = u; child = refilled i inside more; live = live; above = inr (inl refl); named = refilled_name i inside more ∙ e }) parent
-          (lies_up more m l e (tree.below p m u (refilled i inside more) live (inr (inl refl)) (refilled_name i inside more ∙ e))) up) in
+      (λ m e l. one_child (name.Entry (id_of i)) p m q (record { parent = u; child = refilled i inside more; live = live; above = inr (inl refl); named = refilled_name i inside more ∙ e }) parent
+      (lies_up more m l e (tree.below p m u (refilled i inside more) live (inr (inl refl)) (refilled_name i inside more ∙ e))) up) in
       λ x. Some (LeafAt id label (a x) (b x) length counter (even versions))
   refilled_counts Absent p q live named apart parent up = absurd (true≢false (sym (ap is_some named)))
   refilled_counts (Even version) p q live named apart parent up = absurd (true≢false (sym (ap is_some named)))

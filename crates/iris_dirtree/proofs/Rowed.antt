@@ -9,7 +9,7 @@ use Rattle.iris_node.specs.Trees.{Shown, IsParent, IsAbove, node_name}
 use Rattle.iris_node.specs.Unfolded.{Unfolded, id_of}
 use Rattle.iris_shape.specs.Treap.{Treap, Empty, Over, rows}
 use Rattle.iris_cache.specs.Pictures.{IsLike}
-use Rattle.iris_dirtree.specs.Planted.{IsRowName, Likes, Hang, IsWithin, Stays, IsOver, next, far}
+use Rattle.iris_dirtree.specs.Planted.{Likes, Hang, IsWithin, Stays, IsOver, next}
 use Rattle.iris_dirtree.specs.Rows.{Row, Content, Directory, File, row_entry, entry_of, entries, below_row, has_id}
 use Rattle.iris_dirtree.specs.Ways.{Any}
 use Rattle.iris_dirtree.proofs.Likes.{Placed, entry_named, above_less, above_more, top_parent}
@@ -78,6 +78,7 @@ within_rows (Over z a b) y l m (inl e) = any-right (λ r. r ≡ y) (rows a) (z �
     top-of : Treap Row → Row
     top-of Empty = z
     top-of (Over x c d) = x
+
     top : Over y l m ≡ Over z a b → y ≡ z
     top e = ap top-of e
 within_rows (Over z a b) y l m (inr (inl h)) = any-left (λ r. r ≡ y) (rows a) (z ∷ rows b) (within_rows a y l m h)

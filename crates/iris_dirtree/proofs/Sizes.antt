@@ -1,7 +1,7 @@
 -- Each node of a table stands above smaller ones, so none stands above itself.
-use Rattle.std.proofs.Common.{◌≡◌, ◌⊎◌, ◌+◌, ◌<◌, inl, inr, ℕ, suc, Option, Some, None, refl, ap, sym, ◌∙◌, subst, arith}
+use Rattle.std.proofs.Common.{◌≡◌, ◌⊎◌, ◌+◌, ◌<◌, inl, inr, ℕ, Option, Some, None, ap, sym, subst, arith}
 use Rattle.iris_name.specs.declared.name.Name.{Name}
-use Rattle.iris_node.specs.Trees.{Shown, IsTree, IsParent, IsAbove, node_name}
+use Rattle.iris_node.specs.Trees.{Shown, IsTree, IsParent, IsAbove}
 use Rattle.iris_node.specs.Unfolded.{Unfolded, Absent, Folder, Leaf, Even, Split, Stored}
 use Rattle.iris_dirtree.specs.Planted.{IsOver, next, far}
 

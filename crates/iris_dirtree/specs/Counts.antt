@@ -73,3 +73,7 @@ pub record Recounts (child parent : Name) (d e : Drafted) (c : Resident) : Type 
   pub stays : (n : Name) → IsSome (seen d c n) → IsSome (seen e c n)
   pub others : (n : Name) → same_name parent n ≡ false → drafted e n ≡ drafted d n
   pub entries : (n : Name) → (IsEntryName n → ⊥) → drafted e n ≡ drafted d n
+
+-- the parent's node has the count of the child already
+abbrev pub IsCounted : Name → Name → Drafted → Resident → Type 0
+IsCounted child parent d c = (k node : Node) → seen d c child ≡ Some k → said_count (local_of k) < 2 ^ 64 → seen d c parent ≡ Some node → counted_node child (said_count (local_of k)) node ≡ node

@@ -9,3 +9,4 @@ pub mod Grafts
 pub mod Splits
 pub mod Counts
 pub mod Lags
+pub mod Laws

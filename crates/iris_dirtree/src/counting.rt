@@ -1,12 +1,12 @@
 //! The counts above a node.
 
-ghost use Rattle.std.specs.Prelude.{IsSome, IfOk, IfSome, OnOk, Option, Some, None, ◌≡◌, ◌<◌, ◌^◌};
+ghost use Rattle.std.specs.Prelude.{IsSome, IfOk, IfSome, OnOk, Option, Some, None, false, ◌≡◌, ◌<◌, ◌^◌};
 ghost use Rattle.iris_name.specs.declared.name.Name.{Name as SpecName};
 ghost use Rattle.iris_node.specs.Local.{local_of};
 ghost use Rattle.iris_node.specs.Trees.{IsTree, Shown};
 ghost use Rattle.iris_cache.specs.Drafted.{drafted, seen};
 ghost use Rattle.iris_cache.specs.Pictures.{parent_after};
-ghost use Rattle.iris_dirtree.specs.Counts.{counted_body, counted_entry, counted_link, said_count, IsEntryName, Recounts};
+ghost use Rattle.iris_dirtree.specs.Counts.{counted_body, counted_entry, counted_link, said_count, IsCounted, IsEntryName, Recounts};
 ghost use Rattle.iris_dirtree.specs.Hands.{Holding};
 ghost use Rattle.iris_dirtree.specs.Lags.{Lags};
 ghost use Rattle.iris_dirtree.specs.Rows.{IsCountable, Row};
@@ -14,7 +14,7 @@ ghost use Rattle.iris_dirtree.specs.Rows.{IsCountable, Row};
 use crate::nodes::{copy_entry, node_blocks};
 use iris_cache::{Cache, Draft};
 use iris_name::{FileId, Name, NoMemory};
-use iris_node::{Body, EntryNode, Link, Node, is_same_node};
+use iris_node::{Body, EntryNode, Link, Node};
 use std::alloc::Global;
 
 // The blocks at and below a node. Where they have more than 64 bits, any number.
@@ -82,35 +82,37 @@ fn parent_seen(draft: &Draft, cache: &Cache, name: &Name) -> Option<Name>
     }
 }
 
-// Sets the count of a child right in its parent's node.
+// Sets the count of a child right in its parent's node, and answers false where it was so.
 fn recount_one(
     alloc: Global,
     draft: &mut Draft,
     cache: &Cache,
     child: &Name,
     parent: &Name,
-) -> Result<(), NoMemory>
-    ensures { OnOk result (Recounts child.now parent.now draft.old draft.new cache.now) }
+) -> Result<bool, NoMemory>
+    ensures counts { OnOk result (Recounts child.now parent.now draft.old draft.new cache.now) }
+    ensures right { IfOk result (λ wrong. wrong ≡ false → IsCounted child.now parent.now draft.old cache.now) }
 {
     draft.sound();
     cache.sound();
     let Some(node) = draft.view(cache, child) else {
-        return Ok(());
+        return Ok(false);
     };
     let blocks = count_at(node);
     let Some(Node::Entry(entry)) = draft.view(cache, parent) else {
-        return Ok(());
+        return Ok(false);
     };
     let counted = counted_entry(copy_entry(alloc, entry)?, child, blocks);
     if counted == *entry {
-        return Ok(());
+        return Ok(false);
     }
     let above = draft.parent(cache, parent);
-    draft.set(above, Node::Entry(counted))
+    draft.set(above, Node::Entry(counted))?;
+    Ok(true)
 }
 
-/// Sets the counts right in all links on the way up from a child whose count may have changed. It goes up over nodes that are in
-/// draft or cache.
+/// Sets the counts right in the links on the way up from a child whose count may have changed. It goes up over nodes that are in
+/// draft or cache, and no further than to a link whose count is right.
 pub(crate) fn recount(
     alloc: Global,
     draft: &mut Draft,
@@ -128,7 +130,9 @@ pub(crate) fn recount(
         let Some(parent) = parent_seen(draft, cache, &at) else {
             return Ok(());
         };
-        recount_one(alloc, draft, cache, &at, &parent)?;
+        if !recount_one(alloc, draft, cache, &at, &parent)? {
+            return Ok(());
+        }
         at = parent;
     }
     Ok(())

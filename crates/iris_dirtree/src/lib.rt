@@ -5,7 +5,9 @@ mod counting;
 mod hashes;
 mod inserting;
 pub mod kinds;
+pub mod laws;
 mod nodes;
 
 pub use inserting::plan_insert;
 pub use kinds::is_directory;
+pub use laws::{given_up, new_row_in_hand, nothing_in_hand};

@@ -1,16 +1,15 @@
 use Rattle.std.proofs.Common.{Some, sym, ap, ◌∙◌}
-use Rattle.indexmap.proofs.MapLemmas.{OnOk-map}
 use Rattle.iris_node.specs.declared.node.Node.TheVariants as node
 use Rattle.iris_dirtree.specs.Counts.{counted_entry}
 use Rattle.iris_dirtree.proofs.Owned.{seen_own}
 use Rattle.iris_dirtree.proofs.CountsSet.{set_recounts}
 use Rattle.iris_dirtree.proofs.counting.recount_one.Goals as goal
 
-pub returns : goal.returns
-returns c =
+pub returns-clause-counts : goal.returns-clause-counts
+returns-clause-counts c =
     let x = c.in-Some-Entry.entry in
     let at = sym c.in-Some-Entry.ensures ∙ ap Some c.in-Some-Entry.field-0-is in
     let own = seen_own c.args.draft.now c.args.cache.now c.args.parent.now (node.Entry x) c.sound.ensures c.sound-2.ensures at in
     let is = c.counted_entry-counted.ensures ∙ ap (counted_entry c.args.child.now c.count_at-blocks.result) c.in_ok-copy_entry.ensures in
-    OnOk-map c.set.result _ _ (λ put. set_recounts c.args.draft.now c.set.new.self c.args.cache.now c.args.child.now c.args.parent.now c.in-Some.node.now x c.counted_entry-counted.result c.count_at-blocks.result c.parent-above.result
-        (sym c.in-Some.ensures) c.count_at-blocks.ensures own at is c.parent-above.ensures put) c.set.ensures.names
+    set_recounts c.args.draft.now c.set.new.self c.args.cache.now c.args.child.now c.args.parent.now c.in-Some.node.now x c.counted_entry-counted.result c.count_at-blocks.result c.parent-above.result
+    (sym c.in-Some.ensures) c.count_at-blocks.ensures own at is c.parent-above.ensures c.in_ok-set.ensures.names
