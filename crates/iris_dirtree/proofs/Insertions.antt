@@ -35,7 +35,7 @@ any_split P [] b h = inr h
 any_split P (y ∷ a) b (inl h) = inl (inl h)
 any_split P (y ∷ a) b (inr h) = elim (any_split P a b h) [ | inl k ↦ inl (inr k) | inr k ↦ inr k ]
 
-each_parts : {A : Type 0} (P : A → Type 0) (a : List A) (y : A) (b : List A) → Each P (a ++ y ∷ b) → Each P a × P y × Each P b
+pub each_parts : {A : Type 0} (P : A → Type 0) (a : List A) (y : A) (b : List A) → Each P (a ++ y ∷ b) → Each P a × P y × Each P b
 each_parts P [] y b h = (tt, h.0, h.1)
 each_parts P (z ∷ a) y b h = let r = each_parts P a y b h.1 in ((h.0, r.0), r.1, r.2)
 

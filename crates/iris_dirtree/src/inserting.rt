@@ -311,7 +311,7 @@ pub fn plan_insert(
     ensures others { OnOk result ((n : SpecName) → (IsEntryName n → ⊥) → drafted draft.new n ≡ drafted draft.old n) }
     ensures short { IfErr result (λ e. (x : Row) → IsShort (ListedInHand keys.now.order dir x draft.old cache.now) (along_name node.name keys.now.order) draft.old cache.now dir e) }
 {
-    if node.id.0 < 2 {
+    if id_of(&node).0 < 2 {
         return Ok(());
     }
     plant(alloc, draft, cache, keys, dir, node)?;
