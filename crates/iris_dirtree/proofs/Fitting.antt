@@ -158,7 +158,7 @@ over_same d e c n h = ap (λ o. parent_by o (held c n)) h
 pub seen_put : (d e : Drafted) (c : Resident) (p : Option Name) (x : EntryFields) → IsPut d e p x → (seen e c (name.Entry x.id) ≡ Some (node.Entry x)) × (parent_after e c (name.Entry x.id) ≡ p)
 seen_put d e c p x put = node_of_change d e c (name.Entry x.id) p (node.Entry x) (put_at d e p x put)
 
-other_name : (n q : Name) (b : Bool) → same_name n q ≡ b → (q ≡ n → ⊥) → same_name n q ≡ false
+pub other_name : (n q : Name) (b : Bool) → same_name n q ≡ b → (q ≡ n → ⊥) → same_name n q ≡ false
 other_name n q true e off = absurd (off (sym (same_name-true n q e)))
 other_name n q false e off = e
 
