@@ -11,3 +11,6 @@ pub use finding::plan_find;
 pub use kinds::is_directory;
 pub use listing::plan_after;
 pub use placing::plan_place;
+
+#[cfg(test)]
+mod tests;
