@@ -1,14 +1,14 @@
 -- A row put into the list of a directory's rows, and into their treap.
-use Rattle.std.proofs.Common.{◌≡◌, ◌≢◌, ◌⊎◌, ◌+◌, ◌≤◌, ◌<◌, ◌^◌, ◌++◌, inl, inr, ℕ, Bool, true, false, cond, List, [], ◌∷◌, Option, Some, None, IsSome, refl, ap, sym, ◌∙◌, subst, arith}
+use Rattle.std.proofs.Common.{◌≡◌, ◌≢◌, ◌⊎◌, ◌+◌, ◌≤◌, ◌++◌, inl, inr, ℕ, Bool, true, false, cond, List, [], ◌∷◌, Some, refl, ap, sym, ◌∙◌, subst, arith}
 use Rattle.std.proofs.lemmas.Bool.{cond-true, cond-false}
 use Rattle.iris_name.specs.Hmac.{priority}
 use Rattle.iris_name.specs.declared.name.FileId.{FileId}
 use Rattle.iris_name.specs.declared.name.Name.{Name}
 use Rattle.iris_name.specs.declared.name.Name.TheVariants as name
-use Rattle.iris_node.specs.Trees.{Shown, IsTree, IsAbove}
+use Rattle.iris_node.specs.Trees.{Shown, IsAbove}
 use Rattle.iris_node.specs.Unfolded.{Unfolded, id_of, blocks}
-use Rattle.iris_shape.specs.Order.{beats, beside, Rising, Distinct}
-use Rattle.iris_shape.specs.Treap.{Treap, Empty, Over, treap, rows, low, high, insert, put, keep, skip, way, Each, AllApart, Apart}
+use Rattle.iris_shape.specs.Order.{beats, Rising, Distinct}
+use Rattle.iris_shape.specs.Treap.{Treap, Empty, Over, treap, rows, low, high, insert, put, keep, skip, way, Each, AllApart}
 use Rattle.iris_shape.proofs.Treaps.{rows_treap}
 use Rattle.iris_shape.proofs.LawProofs.{treap_put, priorities_rank, names_part}
 use Rattle.iris_dirtree.specs.Rows.{Row, Content, Directory, File, row_id, row_name, row_entry, entry_of, entries, up}
@@ -33,7 +33,7 @@ any_right P (y ∷ a) b h = inr (any_right P a b h)
 any_split : {A : Type 0} (P : A → Type 0) (a b : List A) → Any P (a ++ b) → Any P a ⊎ Any P b
 any_split P [] b h = inr h
 any_split P (y ∷ a) b (inl h) = inl (inl h)
-any_split P (y ∷ a) b (inr h) = elim (any_split P a b h) [ | inl k ↦ inl (inr k) | inr k ↦ inr k ]
+any_split P (y ∷ a) b (inr h) = elim (any_split P a b h) [ inl k ↦ inl (inr k) | inr k ↦ inr k ]
 
 pub each_parts : {A : Type 0} (P : A → Type 0) (a : List A) (y : A) (b : List A) → Each P (a ++ y ∷ b) → Each P a × P y × Each P b
 each_parts P [] y b h = (tt, h.0, h.1)
@@ -65,11 +65,11 @@ distinct_parts (z ∷ a) y b h =
     let r = distinct_parts a y b h.1 in
     let e = each_parts (λ w. z.id ≢ w.id) a y b h.0 in
     record {
-        not_before = λ i. elim i [ | inl s ↦ e.1 (sym (same_id y z s)) | inr j ↦ r.not_before j ];
-        not_after = r.not_after;
-        apart = λ q i j. elim i [ | inl s ↦ none_named z b e.2 (subst (IsRowName b) s j) | inr k ↦ r.apart q k j ];
-        front = (e.0, r.front);
-        back = r.back;
+      not_before = λ i. elim i [ inl s ↦ e.1 (sym (same_id y z s)) | inr j ↦ r.not_before j ];
+      not_after = r.not_after;
+      apart = λ q i j. elim i [ inl s ↦ none_named z b e.2 (subst (IsRowName b) s j) | inr k ↦ r.apart q k j ];
+      front = (e.0, r.front);
+      back = r.back;
     }
 
 pub in_any : (q : Name) (t : Treap Row) → InRows q t → IsRowName (rows t) q
