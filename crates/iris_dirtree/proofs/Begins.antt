@@ -30,7 +30,8 @@ use Rattle.iris_dirtree.specs.Rows.{Row, HasRows, entries, row_entry, up}
 use Rattle.iris_dirtree.specs.Steps.{entry_name, WasHash, Seated, Outside}
 use Rattle.iris_dirtree.specs.Ways.{near_name}
 use Rattle.iris_dirtree.proofs.Likes.{Placed, placed_rows, top_parent, above_less, above_more, roof, like_row}
-use Rattle.iris_dirtree.proofs.Pasts.{size, smaller}
+use Rattle.iris_dirtree.specs.Reached.{size}
+use Rattle.iris_dirtree.proofs.Sizes.{above_larger}
 use Rattle.iris_dirtree.proofs.Sees.{Sees, sees_drafts, wanted, root_wanted}
 use Rattle.iris_dirtree.proofs.Stands.{led_named, link_holds, top_way, root_name}
 
@@ -154,8 +155,8 @@ some_same a b h = let e : a ≡ b = cc in ap size e
 apart_by : (new : Shown) (n : Name) (u : Unfolded) → new n ≡ Some u → (w : Treap Row) → Placed new w → size (entries w) < size u → Outside n w
 apart_by new n u live Empty h lt = tt
 apart_by new n u live (Over y l m) h lt =
-    let a = smaller (entries (Over y l m)) (entries l) (above_less y.id y.name y.content (entries l) (entries m)) in
-    let b = smaller (entries (Over y l m)) (entries m) (above_more y.id y.name y.content (entries l) (entries m)) in (
+    let a = above_larger (entries (Over y l m)) (entries l) (above_less y.id y.name y.content (entries l) (entries m)) in
+    let b = above_larger (entries (Over y l m)) (entries m) (above_more y.id y.name y.content (entries l) (entries m)) in (
       (λ e. let s = some_same u (entries (Over y l m)) (sym live ∙ ap new e ∙ h.0) in absurd (omega (arith, s, lt))),
       apart_by new n u live l h.1 (omega (arith, a, lt)),
       apart_by new n u live m h.2 (omega (arith, b, lt)),
@@ -164,4 +165,4 @@ apart_by new n u live (Over y l m) h lt =
 pub dir_apart : (new : Shown) (key : List ℕ) (dir : FileId) (all : List Row) → IsTree new → HasRows new key dir all → Outside (name.Entry dir) (treap (up key) all)
 dir_apart new key dir all is has =
     let r = roof new key dir all has in
-    apart_by new (name.Entry dir) r.entry r.live (treap (up key) all) (placed_rows new key dir all is has) (smaller r.entry (entries (treap (up key) all)) r.above)
+    apart_by new (name.Entry dir) r.entry r.live (treap (up key) all) (placed_rows new key dir all is has) (above_larger r.entry (entries (treap (up key) all)) r.above)

@@ -16,7 +16,8 @@ use Rattle.iris_dirtree.specs.Ways.{Any, before}
 use Rattle.iris_dirtree.specs.Planted.{IsRowName, IsWithin}
 use Rattle.iris_dirtree.specs.Grafts.{Fork, entry_name, forked, around, InRows, Once, TopBelow}
 use Rattle.iris_dirtree.proofs.Likes.{Placed, above_less, above_more}
-use Rattle.iris_dirtree.proofs.Pasts.{size, smaller}
+use Rattle.iris_dirtree.specs.Reached.{size}
+use Rattle.iris_dirtree.proofs.Sizes.{above_larger}
 use Rattle.iris_dirtree.proofs.HeldHashes.{num_of}
 
 -- ---- lists of rows
@@ -268,12 +269,12 @@ in_size t q Empty h i = absurd i
 in_size t q (Over y l m) h (inl e) = (entries (Over y l m), ap t e ∙ h.0, omega arith)
 in_size t q (Over y l m) h (inr (inl i)) =
     let r = in_size t q l h.1 i in
-    let s = smaller (entries (Over y l m)) (entries l) (above_less y.id y.name y.content (entries l) (entries m)) in
+    let s = above_larger (entries (Over y l m)) (entries l) (above_less y.id y.name y.content (entries l) (entries m)) in
     let a = r.2 in
     (r.0, r.1, omega (arith, s, a))
 in_size t q (Over y l m) h (inr (inr i)) =
     let r = in_size t q m h.2 i in
-    let s = smaller (entries (Over y l m)) (entries m) (above_more y.id y.name y.content (entries l) (entries m)) in
+    let s = above_larger (entries (Over y l m)) (entries m) (above_more y.id y.name y.content (entries l) (entries m)) in
     let a = r.2 in
     (r.0, r.1, omega (arith, s, a))
 
@@ -284,7 +285,7 @@ pub none_inside : (t : Shown) (q : Name) (u : Unfolded) (w : Treap Row) → t q 
 none_inside t q u w live above placed i =
     let r = in_size t q w placed i in
     let e : r.0 ≡ u = same_some r.0 u (sym r.1 ∙ live) in
-    let s = smaller u (entries w) above in
+    let s = above_larger u (entries w) above in
     let a = r.2 in
     let z = ap size e in
     omega (arith, s, a, z)
