@@ -25,7 +25,7 @@ use Rattle.iris_plain.specs.declared.checks.Seen.{Seen}
 use Rattle.iris_plain.specs.declared.checks.Seen.TheVariants.{ADirectory, AFile, Nothing, AFileBefore}
 use Rattle.iris_plain.specs.Checks.{unresolved, move_checks, then_error, error_if, is_there}
 use Rattle.iris_plain.specs.Routes.{parent, last, is_top, is_front}
-use Rattle.iris_dirtree.specs.Rows.{Row, Content, Directory, File, HasRows, Rearranges, IsCountable, IsRooted, entry_of}
+use Rattle.iris_dirtree.specs.Rows.{Row, Content, Directory, File, HasRows, Rearranges, IsCountable, entry_of}
 use Rattle.iris_dirtree.specs.Hands.{Holding, IsRowNode, HoldsTrue}
 use Rattle.iris_dirtree.specs.Ways.{Any, before, is_named, along_name}
 use Rattle.iris_dirtree.specs.Needs.{Listed, ListedInHand, IsShort, IsMet}
@@ -37,6 +37,7 @@ use Rattle.iris_paths.specs.Resolving.{Resolves}
 use Rattle.iris_paths.specs.Pictured.{Pictured, IsOnTrail, IsPathLack, every, AreInSight}
 use Rattle.iris_paths.specs.Following.{Follows, standing_seen, met_seen}
 use Rattle.iris_paths.specs.Entering.{IsPlace}
+use Rattle.iris_paths.specs.Making.{IsWhole}
 use Rattle.iris_paths.specs.Moving.{renamed, Takes, Puts, IsSource, IsMoved, IsCarryShort, IsMoveShort}
 use Rattle.iris_paths.proofs.Alike.{Alike}
 use Rattle.iris_paths.proofs.Steps.{ended}
@@ -136,8 +137,8 @@ holds_renamed old new x label d c h = record {
   out = h.out;
 }
 
-in_hand : (key : List ℕ) (into : FileId) (label : List ℕ) (x : Row) (others : List Row) (old mid : Shown) (d : Drafted) (c : Resident) → IsTree old → IsRooted old → IsTree mid → Holding old mid (Some x) d c → HasRows mid key into others → ListedInHand key into (renamed label x) d c old mid others
-in_hand key into label x others old mid d c was rooted is hand has = record { was = was; rooted = rooted; is = is; hand = holds_renamed old mid x label d c hand; rows_are = has }
+in_hand : (key : List ℕ) (into : FileId) (label : List ℕ) (x : Row) (others : List Row) (old mid : Shown) (d : Drafted) (c : Resident) → IsTree old → IsWhole old → IsTree mid → Holding old mid (Some x) d c → HasRows mid key into others → ListedInHand key into (renamed label x) d c old mid others
+in_hand key into label x others old mid d c was rooted is hand has = record { was = was; rooted = rooted.0; formed = rooted.1; is = is; hand = holds_renamed old mid x label d c hand; rows_are = has }
 
 unset_by : (d : Drafted) (c : Resident) (old new : Shown) (n : Name) (o : Option Change) → Drafts old new d c → drafted d n ≡ o → held c n ≡ None → IsSome (old n) → o ≡ None
 unset_by d c old new n None p e absent lived = refl
@@ -154,7 +155,7 @@ module _ (key : List ℕ) (out : FileId) (name : List ℕ) (into : FileId) (labe
 
   pub carries : (f : Drafted) (node : EntryFields) → node ≡ alone entry label
       → ((old new made : Shown) (x : Row) (rows : List Row) → ListedInHand key into x e c old new rows → IsRowNode x node → HoldsTrue old c node → IsTree made → IsCountable made → Rearranges new made key into rows (put (before x.name) x rows) → Drafts old made f c)
-      → (old new mid made : Shown) (x : Row) (rows others : List Row) → IsTree old → IsTree new → Drafts old new d c → IsRooted old → Takes key out name x rows new mid → Puts key into label x others mid made → Drafts old made f c
+      → (old new mid made : Shown) (x : Row) (rows others : List Row) → IsTree old → IsTree new → Drafts old new d c → IsWhole old → Takes key out name x rows new mid → Puts key into label x others mid made → Drafts old made f c
   carries f node same inserted old new mid made x rows others was is drafts rooted t p =
       let h = taken old new mid x rows was is drafts t in
       inserted old mid made (renamed label x) others (in_hand key into label x others old mid e c was rooted t.tree h.0 p.has)
@@ -197,7 +198,7 @@ move_lacks key from to out into d c (Need n x) source place h = elim h [
     needed = λ met old new pic m there beyond others leads has.
         let same = (source.3 key met old new pic).1 m.id m.out m.leads in
         let here = (place.2 key met old new pic).one there beyond leads in
-        let w = k.needed old new m.mid m.row m.rows others pic.was pic.is pic.drafts m.rooted (subst (λ i. Takes key i (last from) m.row m.rows new m.mid) same m.takes) (subst (λ i. HasRows m.mid key i others) here has) in
+        let w = k.needed old new m.mid m.row m.rows others pic.was pic.is pic.drafts m.whole (subst (λ i. Takes key i (last from) m.row m.rows new m.mid) same m.takes) (subst (λ i. HasRows m.mid key i others) here has) in
         (w.0, subst (λ i. IsMet i (along_name (last to) key others) n) (sym here) w.1, w.2);
   })
 ]
@@ -209,8 +210,8 @@ pub rest_of_checks : (key : List ℕ) (met : List (List ℕ) → Seen) (from to 
 rest_of_checks key met from to out d c old new rest source pic = moves_on met from to rest source.1 (source.3 key met old new pic).0 source.2
 
 pub moves : (key : List ℕ) (from to : List (List ℕ)) (out into : FileId) (d e : Drafted) (c : Resident) → IsSource d c from to (In out) → IsPlace d c to (In into) → (label other : List ℕ) → label ≡ last from → other ≡ last to
-    → ((old new mid made : Shown) (x : Row) (rows others : List Row) → IsTree old → IsTree new → Drafts old new d c → IsRooted old → Takes key out label x rows new mid → Puts key into other x others mid made → Drafts old made e c)
-    → (met : List (List ℕ) → Seen) (old new mid made : Shown) (id gone there beyond : FileId) (x : Row) (rows others : List Row) → Pictured key met d c old new → IsRooted old → Resolves new key from (At id gone) → Resolves new key (parent to) (At there beyond)
+    → ((old new mid made : Shown) (x : Row) (rows others : List Row) → IsTree old → IsTree new → Drafts old new d c → IsWhole old → Takes key out label x rows new mid → Puts key into other x others mid made → Drafts old made e c)
+    → (met : List (List ℕ) → Seen) (old new mid made : Shown) (id gone there beyond : FileId) (x : Row) (rows others : List Row) → Pictured key met d c old new → IsWhole old → Resolves new key from (At id gone) → Resolves new key (parent to) (At there beyond)
     → Takes key gone (last from) x rows new mid → Puts key there (last to) x others mid made → Drafts old made e c
 moves key from to out into d e c source place label other is was carried met old new mid made id gone there beyond x rows others pic rooted leads leads2 takes puts =
     let same = (source.3 key met old new pic).1 id gone leads in
