@@ -1,5 +1,5 @@
 -- A plan begins at a directory's topmost row.
-use Rattle.std.proofs.Common.{◌≡◌, ◌≢◌, ◌⊎◌, inl, inr, ◌<◌, ◌≤◌, ℕ, Bool, true, false, List, [], ◌∷◌, Option, Some, None, IsSome, refl, ap, sym, ◌∙◌, subst, arith}
+use Rattle.std.proofs.Common.{◌≡◌, inl, inr, ◌<◌, ℕ, List, [], Option, Some, None, IsSome, refl, ap, sym, ◌∙◌, subst, arith}
 use Rattle.iris_name.specs.declared.name.FileId.{FileId}
 use Rattle.iris_name.specs.declared.name.Hash32.{Hash32}
 use Rattle.iris_name.specs.declared.name.Name.{Name}
@@ -12,23 +12,22 @@ use Rattle.iris_node.specs.declared.node.Node.{Node}
 use Rattle.iris_node.specs.declared.node.Node.TheVariants as node
 use Rattle.iris_node.specs.Fields.{EntryFields}
 use Rattle.iris_node.specs.Local.{led, led_by}
-use Rattle.iris_node.specs.Trees.{Shown, IsTree, IsParent, IsAbove, node_name}
-use Rattle.iris_node.specs.Unfolded.{Unfolded, id_of}
-use Rattle.iris_shape.specs.Treap.{Treap, Empty, Over, treap, near, rows}
+use Rattle.iris_node.specs.Trees.{Shown, IsTree, IsParent, IsAbove}
+use Rattle.iris_node.specs.Unfolded.{Unfolded}
+use Rattle.iris_shape.specs.Treap.{Treap, Empty, Over, treap}
 use Rattle.iris_cache.specs.declared.held.Short.{Short}
 use Rattle.iris_cache.specs.declared.held.Short.TheVariants.{Need, NoMemory}
 use Rattle.iris_cache.specs.Resident.{Resident}
 use Rattle.iris_cache.specs.Drafted.{Drafted, seen, known, there_by}
-use Rattle.iris_cache.specs.Pictures.{Holds, LinkHolds, BodyHolds, IsLike}
+use Rattle.iris_cache.specs.Pictures.{Holds, BodyHolds, IsLike}
 use Rattle.iris_cache.proofs.Lacking.{unknown}
-use Rattle.iris_dirtree.specs.Descents.{IsWantedLink, WantsBelow, Stands, Seeking, IsStop, Seeks}
+use Rattle.iris_dirtree.specs.Descents.{IsWantedLink, WantsBelow, Seeking, IsStop}
 use Rattle.iris_dirtree.specs.Found.{entry_in, inside, body_inside}
 use Rattle.iris_dirtree.specs.Needs.{Listed, Lacks, IsShort, IsDirectory}
 use Rattle.iris_dirtree.specs.Nodes.{dir_top, body_top, IsTopLack}
 use Rattle.iris_dirtree.specs.Planted.{IsWithin}
 use Rattle.iris_dirtree.specs.Rows.{Row, HasRows, entries, row_entry, up}
-use Rattle.iris_dirtree.specs.Steps.{entry_name, WasHash, Seated, Outside}
-use Rattle.iris_dirtree.specs.Ways.{near_name}
+use Rattle.iris_dirtree.specs.Steps.{entry_name, Seated, Outside}
 use Rattle.iris_dirtree.proofs.Likes.{Placed, placed_rows, top_parent, above_less, above_more, roof, like_row}
 use Rattle.iris_dirtree.specs.Reached.{size}
 use Rattle.iris_dirtree.proofs.Sizes.{above_larger}

@@ -11,7 +11,7 @@ use Rattle.iris_name.specs.NameLaws.{same_name_equiv, same_name-true}
 use Rattle.iris_name.specs.declared.name.Name.{Name}
 use Rattle.iris_node.specs.declared.node.Node.{Node}
 use Rattle.iris_node.specs.Trees.{Shown, IsAbove}
-use Rattle.iris_node.specs.Unfolded.{Unfolded, Absent, Folder, Leaf, Even, Split, Stored}
+use Rattle.iris_node.specs.Unfolded.{Unfolded}
 use Rattle.iris_cache.specs.declared.held.Held.{Held}
 use Rattle.iris_cache.specs.declared.draft.Change.{Change}
 use Rattle.iris_cache.specs.Resident.{Resident, held}

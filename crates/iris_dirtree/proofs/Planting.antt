@@ -1,5 +1,5 @@
 -- The treap without a row is planted.
-use Rattle.std.proofs.Common.{◌≡◌, ◌≢◌, ◌⊎◌, ◌+◌, ◌<◌, ◌^◌, inl, inr, ℕ, Bool, true, false, cond, List, [], ◌∷◌, Option, Some, None, IsSome, refl, ap, sym, ◌∙◌, subst, arith}
+use Rattle.std.proofs.Common.{◌≡◌, ◌≢◌, ◌⊎◌, ◌+◌, ◌<◌, ◌^◌, inl, inr, ℕ, Bool, true, false, cond, List, [], Option, Some, None, IsSome, refl, ap, sym, ◌∙◌, subst, arith}
 use Rattle.iris_name.specs.Names.{same_name}
 use Rattle.iris_name.specs.NameLaws.{same_name-true, same_name-refl}
 use Rattle.iris_name.specs.declared.name.FileId.{FileId}
@@ -15,8 +15,7 @@ use Rattle.iris_node.specs.Fields.{EntryFields}
 use Rattle.iris_node.specs.Local.{local, entry_local}
 use Rattle.iris_node.specs.Trees.{Shown}
 use Rattle.iris_node.specs.Unfolded.{Unfolded, Absent, blocks, id_of}
-use Rattle.iris_shape.specs.Order.{Distinct}
-use Rattle.iris_shape.specs.Treap.{Treap, treap, rows, without, Each, Every}
+use Rattle.iris_shape.specs.Treap.{Treap, treap, rows, without, Every}
 use Rattle.iris_shape.proofs.Treaps.{every_of, rows_treap}
 use Rattle.iris_cache.specs.declared.held.Held.{Held}
 use Rattle.iris_cache.specs.declared.draft.Change.{Change}
@@ -29,7 +28,7 @@ use Rattle.iris_dirtree.specs.Hands.{IsRowNode, HoldsTrue}
 use Rattle.iris_dirtree.specs.Needs.{Listed}
 use Rattle.iris_dirtree.specs.Nodes.{OnlyEntries}
 use Rattle.iris_dirtree.specs.Planted.{IsRowName, Planted, topped, with_top}
-use Rattle.iris_dirtree.specs.Rows.{Row, Content, Directory, File, HasRows, IsCountable, row_id, entry_of, entries, row_entry, up}
+use Rattle.iris_dirtree.specs.Rows.{Row, Content, Directory, File, HasRows, IsCountable, entry_of, entries, row_entry, up}
 use Rattle.iris_dirtree.specs.Steps.{entry_name, WasHash, Leads, Seated, Outside, Rising}
 use Rattle.iris_dirtree.specs.Ways.{Any, is_named}
 use Rattle.iris_dirtree.proofs.Begins.{Holder, dir_apart}

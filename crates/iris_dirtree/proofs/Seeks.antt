@@ -1,34 +1,30 @@
 -- The way down to a row, and down the two treaps beside it.
-use Rattle.std.proofs.Common.{◌≡◌, ◌⊎◌, ◌&&◌, not, inl, inr, ◌++◌, ℕ, Bool, true, false, cond, List, [], ◌∷◌, Option, Some, None, IsSome, refl, ap, sym, ◌∙◌, subst}
+use Rattle.std.proofs.Common.{◌≡◌, ◌&&◌, not, inl, inr, ◌++◌, ℕ, Bool, true, false, cond, List, [], ◌∷◌, Option, Some, None, refl, ap, sym, ◌∙◌, subst}
 use Rattle.std.proofs.lemmas.Bool.{cond-true, cond-false}
-use Rattle.iris_name.specs.declared.name.FileId.{FileId}
-use Rattle.iris_name.specs.declared.name.Hash32.{Hash32}
 use Rattle.iris_name.specs.declared.name.Name.{Name}
 use Rattle.iris_name.specs.declared.name.Name.TheVariants as name
 use Rattle.iris_name.specs.declared.note.Expect.{Expect}
 use Rattle.iris_name.specs.declared.note.Expect.TheVariants.{Hash}
 use Rattle.iris_node.specs.declared.node.Link.{Link}
-use Rattle.iris_node.specs.declared.node.Node.{Node}
 use Rattle.iris_node.specs.declared.node.Node.TheVariants as node
 use Rattle.iris_node.specs.Fields.{EntryFields}
 use Rattle.iris_node.specs.Trees.{Shown}
 use Rattle.iris_node.specs.Unfolded.{id_of}
-use Rattle.iris_shape.specs.Treap.{Treap, Empty, Over, rows, merge, onto, remove, way, near}
+use Rattle.iris_shape.specs.Treap.{Treap, Empty, Over, rows, merge, onto, way}
 use Rattle.iris_shape.specs.Order.{less_name}
 use Rattle.iris_cache.specs.declared.held.Short.{Short}
 use Rattle.iris_cache.specs.declared.held.Short.TheVariants.{Need, NoMemory}
 use Rattle.iris_cache.specs.Resident.{Resident}
 use Rattle.iris_cache.specs.Drafted.{Drafted, known, seen}
-use Rattle.iris_cache.specs.Pictures.{Holds, IsLike}
 use Rattle.iris_dirtree.specs.declared.removing.Crumb.{Crumb}
 use Rattle.iris_dirtree.specs.Needs.{IsWanted}
 use Rattle.iris_dirtree.specs.Nodes.{toward, IsLinkLack}
-use Rattle.iris_dirtree.specs.Rows.{Row, entries, row_entry}
-use Rattle.iris_dirtree.specs.Steps.{Step, over, under, entry_name, above, WasHash, Seat, Seated, Leads, IsCrumb, AreCrumbs}
-use Rattle.iris_dirtree.specs.Descents.{IsWantedLink, WantsBelow, Stands, IsAmong, met_near, taken, Seeking, FoundRow, Joining, Ended, IsStop, Seeks, Joins}
+use Rattle.iris_dirtree.specs.Rows.{Row, entries}
+use Rattle.iris_dirtree.specs.Steps.{Step, over, under, entry_name, above, WasHash, IsCrumb}
+use Rattle.iris_dirtree.specs.Descents.{Stands, IsAmong, met_near, taken, Seeking, FoundRow, Joining, Ended, IsStop, Seeks, Joins}
 use Rattle.iris_dirtree.specs.Ways.{Any, before, is_named}
 use Rattle.iris_dirtree.proofs.Downs.{any_left, any_right}
-use Rattle.iris_dirtree.proofs.Likes.{like_row, LikeRow, leads_over, leads_empty, Top}
+use Rattle.iris_dirtree.proofs.Likes.{like_row, leads_over, leads_empty}
 use Rattle.iris_dirtree.proofs.Rowed.{row_any}
 use Rattle.iris_dirtree.proofs.Steps.{under_more, above_more}
 use Rattle.iris_dirtree.proofs.Climbs.{crumbs_more}

@@ -1,5 +1,5 @@
 -- Each node of a table stands above smaller ones, so none stands above itself.
-use Rattle.std.proofs.Common.{◌≡◌, ◌⊎◌, ◌+◌, ◌<◌, inl, inr, ℕ, Option, Some, None, ap, sym, subst, arith}
+use Rattle.std.proofs.Common.{◌≡◌, ◌⊎◌, ◌<◌, inl, inr, ℕ, Option, Some, None, ap, sym, subst, arith}
 use Rattle.iris_name.specs.declared.name.Name.{Name}
 use Rattle.iris_node.specs.Trees.{Shown, IsTree, IsParent, IsAbove}
 use Rattle.iris_node.specs.Unfolded.{Unfolded, Absent, Folder, Leaf, Even, Split, Stored}

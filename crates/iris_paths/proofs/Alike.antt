@@ -1,9 +1,9 @@
 -- Treaps of rows of the same ids and names, and what is met in them.
-use Rattle.std.proofs.Common.{◌≡◌, ◌∙◌, ◌++◌, ℕ, List, [], ◌∷◌, Bool, true, false, cond, Option, Some, None, IsSome, refl, sym, ap, subst, inl, inr}
+use Rattle.std.proofs.Common.{◌≡◌, ◌∙◌, ℕ, List, [], ◌∷◌, Bool, true, false, cond, refl, sym, ap, subst, inl, inr}
 use Rattle.iris_name.specs.declared.name.Name.{Name}
 use Rattle.iris_name.specs.declared.name.Name.TheVariants as name
 use Rattle.iris_node.specs.Unfolded.{Unfolded, Absent, Folder, Leaf, Even, Split, Stored, id_of}
-use Rattle.iris_shape.specs.Treap.{Treap, Empty, Over, Each, Every, way, near}
+use Rattle.iris_shape.specs.Treap.{Treap, Empty, Over, Each, Every, way}
 use Rattle.iris_dirtree.specs.Rows.{Row, Content, Directory, File, entry_of, entries, refilled}
 use Rattle.iris_dirtree.specs.Ways.{Any, along, before, is_named}
 

@@ -39,7 +39,6 @@ use Rattle.iris_paths.specs.Following.{Follows, standing_seen, met_seen}
 use Rattle.iris_paths.specs.Entering.{IsPlace}
 use Rattle.iris_paths.specs.Making.{IsWhole}
 use Rattle.iris_paths.specs.Moving.{renamed, Takes, Puts, IsSource, IsMoved, IsCarryShort, IsMoveShort}
-use Rattle.iris_paths.proofs.Alike.{Alike}
 use Rattle.iris_paths.proofs.Steps.{ended}
 use Rattle.iris_paths.proofs.Reaching.{listed}
 use Rattle.iris_paths.proofs.Arriving.{comes, meets_so}
