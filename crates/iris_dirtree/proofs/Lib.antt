@@ -25,6 +25,11 @@ pub mod Begins
 pub mod Withouts
 pub mod Plants
 pub mod Planting
+pub mod HeldHashes
+pub mod Insertions
+pub mod Grafting
+pub mod Implanting
+pub mod Shortages
 pub mod Moved
 pub mod Handed
 pub mod Rights

@@ -4,7 +4,7 @@ use Rattle.iris_name.specs.Names.{same_name}
 use Rattle.iris_name.specs.NameLaws.{same_name-refl}
 use Rattle.iris_node.specs.declared.node.Link.{Link}
 use Rattle.iris_cache.specs.Pictures.{parent_after}
-use Rattle.iris_dirtree.specs.Nodes.{IsPut}
+pub use Rattle.iris_dirtree.specs.Nodes.{IsPut}
 use Rattle.iris_dirtree.specs.Planted.{with_top}
 use Rattle.iris_name.specs.declared.name.FileId.{FileId}
 use Rattle.iris_name.specs.declared.name.Name.{Name}

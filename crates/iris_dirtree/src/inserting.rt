@@ -22,7 +22,10 @@ ghost use Rattle.iris_dirtree.specs.Splits.{IsKnown, IsRead, IsWayShort, IsSplit
 
 use crate::counting::recount;
 use crate::hashes::hash_held;
-use crate::nodes::{between, entry_at, is_named, link_to, set_top, side, stands_above, stands_before, top_of, turn};
+use crate::nodes::{
+    between, copy_name, entry_at, id_of, is_named, link_to, set_top, side, stands_above,
+    stands_before, top_of, turn,
+};
 use iris_cache::{Cache, Draft, Short};
 use iris_mac::Keys;
 use iris_name::{FileId, Hash32, Name, NoMemory, Text};
@@ -282,8 +285,8 @@ fn plant(
     ensures entries { OnOk result (OnlyEntries draft.old draft.new) }
     ensures short { IfErr result (λ e. (x : Row) → IsShort (ListedInHand keys.now.order dir x draft.old cache.now) (along_name node.name keys.now.order) draft.old cache.now dir e) }
 {
-    let name = node.name.copy(alloc)?;
-    let id = node.id;
+    let name = copy_name(alloc, &node)?;
+    let id = id_of(&node);
     let top = top_of(draft, cache, dir)?;
     let above = walk_above(alloc, draft, cache, keys, top, dir, &name, id)?;
     let below = walk_below(alloc, draft, cache, above.at, &name, id)?;
@@ -311,7 +314,7 @@ pub fn plan_insert(
     ensures others { OnOk result ((n : SpecName) → (IsEntryName n → ⊥) → drafted draft.new n ≡ drafted draft.old n) }
     ensures short { IfErr result (λ e. (x : Row) → IsShort (ListedInHand keys.now.order dir x draft.old cache.now) (along_name node.name keys.now.order) draft.old cache.now dir e) }
 {
-    if node.id.0 < 2 {
+    if id_of(&node).0 < 2 {
         return Ok(());
     }
     plant(alloc, draft, cache, keys, dir, node)?;

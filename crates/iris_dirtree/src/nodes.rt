@@ -130,6 +130,19 @@ pub(crate) fn link_to(entry: &EntryNode, hash: Hash32) -> Link
     }
 }
 
+/// A copy of an entry's name.
+pub(crate) fn copy_name(alloc: Global, entry: &EntryNode) -> Result<Text, NoMemory>
+    ensures { IfOk result (λ name. name ≡ entry.now.name) }
+{
+    entry.name.copy(alloc)
+}
+
+pub(crate) fn id_of(entry: &EntryNode) -> FileId
+    ensures { result ≡ entry.now.id }
+{
+    entry.id
+}
+
 /// A copy of an entry.
 pub(crate) fn copy_entry(alloc: Global, entry: &EntryNode) -> Result<EntryNode, NoMemory>
     ensures { IfOk result (λ e. e ≡ entry.now) }
