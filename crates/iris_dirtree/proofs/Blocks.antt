@@ -1,5 +1,5 @@
 -- Where the block at a place of the walk lies, by counts.
-use Rattle.std.proofs.Common.{◌≡◌, ◌+◌, ◌-◌, ◌/◌, ◌<◌, ◌≤◌, ◌++◌, inl, inr, ◌⊎◌, nat_lt, ℕ, zero, suc, List, [], ◌∷◌, Bool, true, false, cond, Option, Some, None, refl, ap, sym, ◌∙◌, subst, arith, length, map}
+use Rattle.std.proofs.Common.{◌≡◌, ◌+◌, ◌-◌, ◌/◌, ◌<◌, ◌≤◌, ◌++◌, inl, inr, nat_lt, ℕ, zero, suc, List, [], ◌∷◌, true, false, Option, Some, None, refl, ap, sym, ◌∙◌, subst, arith, length}
 use Rattle.std.specs.Prelude.{slice_get, if◌then◌else◌}
 use Rattle.std.specs.List.{range_with_len}
 use Rattle.std.specs.Option.{option_map}
@@ -21,8 +21,8 @@ use Rattle.iris_node.specs.Trees.{IsAbove, node_name}
 use Rattle.iris_node.specs.Unfolded.{Unfolded, Absent, Folder, Leaf, Even, Split, Stored, id_of, blocks}
 use Rattle.iris_node.specs.Walk.{BlockAt, walk, file_blocks, block_count}
 use Rattle.iris_node.proofs.Walking.{counted}
-use Rattle.iris_cache.specs.Pictures.{Holds, LinkHolds, BodyHolds}
-use Rattle.iris_dirtree.specs.Nodes.{link_blocks, own_blocks, node_blocks}
+use Rattle.iris_cache.specs.Pictures.{Holds, BodyHolds}
+use Rattle.iris_dirtree.specs.Nodes.{link_blocks, own_blocks}
 use Rattle.iris_dirtree.specs.Places.{down_to}
 use Rattle.iris_dirtree.specs.Turns.{IsTurn}
 use Rattle.iris_dirtree.specs.Ways.{Any}
@@ -61,10 +61,10 @@ file_at id size p lt =
     let f : ℕ → BlockAt = λ place. record { file = id; place = place } in
     slice_get-map f (range_with_len 0 (block_count size)) p ∙ ap (option_map f) (range_at (block_count size) p lt)
 
-is_less : (a b : ℕ) → a < b → nat_lt a b ≡ true
+pub is_less : (a b : ℕ) → a < b → nat_lt a b ≡ true
 is_less a b lt = grind (arith, nat_tests)
 
-is_not_less : (a b : ℕ) → b ≤ a → nat_lt a b ≡ false
+pub is_not_less : (a b : ℕ) → b ≤ a → nat_lt a b ≡ false
 is_not_less a b le = grind (arith, nat_tests)
 
 -- a choice of three by counts
@@ -151,7 +151,9 @@ turned_dir id label less more inside e top at link rest be el em ei (inl (is, sa
     let at_rest : rest ≡ at = same in
     let l : at < blocks less = omega arith in
     record {
-      under = less; above = inl refl; leads = ap led_by is ∙ el;
+      under = less;
+      above = inl refl;
+      leads = ap led_by is ∙ el;
       holds = λ k q. inl (link_holds e.left k (sym is ∙ q));
       same = get_first (walk less) (walk inside) (walk more) (blocks less) at (counted less) l ∙ ap (slice_get (walk less)) (sym same);
       met = λ n h. inr (subst (Meets n) (ap (λ r. down_to r less) same ∙ sym (first_of_three at (blocks less) (blocks inside) (λ r. down_to r less) (λ r. down_to r inside) (λ r. down_to r more) l)) h);
@@ -162,7 +164,9 @@ turned_dir id label less more inside e top at link rest be el em ei (inr (inl (i
     let q : at ≡ blocks less + rest = omega arith in
     let l : rest < blocks inside = omega arith in
     record {
-      under = inside; above = inr (inr refl); leads = ap led_by is ∙ ei;
+      under = inside;
+      above = inr (inr refl);
+      leads = ap led_by is ∙ ei;
       holds = λ k q. inr (inr (subst (λ b. BodyHolds e.id b (name.Entry k.id) k.hash) (sym be) (link_holds top k (sym is ∙ q))));
       same = get_second (walk less) (walk inside) (walk more) (blocks less) (blocks inside) at rest (counted less) (counted inside) q l;
       met = λ n h. inr (subst (Meets n) (sym (second_of_three at (blocks less) (blocks inside) rest (λ r. down_to r less) (λ r. down_to r inside) (λ r. down_to r more) q l)) h);
@@ -172,7 +176,9 @@ turned_dir id label less more inside e top at link rest be el em ei (inr (inr (i
     let b = led_blocks top inside ei in
     let q : at ≡ blocks less + blocks inside + rest = omega arith in
     record {
-      under = more; above = inr (inl refl); leads = ap led_by is ∙ em;
+      under = more;
+      above = inr (inl refl);
+      leads = ap led_by is ∙ em;
       holds = λ k q. inr (inl (link_holds e.right k (sym is ∙ q)));
       same = get_third (walk less) (walk inside) (walk more) (blocks less) (blocks inside) at rest (counted less) (counted inside) q;
       met = λ n h. inr (subst (Meets n) (sym (third_of_three at (blocks less) (blocks inside) rest (λ r. down_to r less) (λ r. down_to r inside) (λ r. down_to r more) q)) h);
@@ -188,7 +194,9 @@ turned_file id label less more size counter versions e n k v at link rest en el 
     let at_rest : rest ≡ at = same in
     let l : at < blocks less = omega arith in
     record {
-      under = less; above = inl refl; leads = ap led_by is ∙ el;
+      under = less;
+      above = inl refl;
+      leads = ap led_by is ∙ el;
       holds = λ k q. inl (link_holds e.left k (sym is ∙ q));
       same = get_first (walk less) (file_blocks id size) (walk more) (blocks less) at (counted less) l ∙ ap (slice_get (walk less)) (sym same);
       met = λ n h. inr (subst (Meets n) (ap (λ r. down_to r less) same ∙ sym (first_of_three at (blocks less) (block_count size) (λ r. down_to r less) (λ r. []) (λ r. down_to r more) l)) h);
@@ -199,7 +207,9 @@ turned_file id label less more size counter versions e n k v at link rest en el 
     let b : (n + 4095) / 4096 ≡ block_count size = ap (λ n. (n + 4095) / 4096) en in
     let q : at ≡ blocks less + block_count size + rest = omega arith in
     record {
-      under = more; above = inr (inl refl); leads = ap led_by is ∙ em;
+      under = more;
+      above = inr (inl refl);
+      leads = ap led_by is ∙ em;
       holds = λ k q. inr (inl (link_holds e.right k (sym is ∙ q)));
       same = get_third (walk less) (file_blocks id size) (walk more) (blocks less) (block_count size) at rest (counted less) (file_count id size) q;
       met = λ n h. inr (subst (Meets n) (sym (third_of_three at (blocks less) (block_count size) rest (λ r. down_to r less) (λ r. []) (λ r. down_to r more) q)) h);

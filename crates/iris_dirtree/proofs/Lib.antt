@@ -34,3 +34,6 @@ pub mod Moved
 pub mod Handed
 pub mod Rights
 pub mod Finishing
+pub mod Pages
+pub mod Pilings
+pub mod Listings

@@ -16,16 +16,8 @@ use Rattle.iris_cache.specs.declared.held.Held.{Held}
 use Rattle.iris_cache.specs.declared.draft.Change.{Change}
 use Rattle.iris_cache.specs.Resident.{Resident, held}
 use Rattle.iris_cache.specs.Drafted.{Drafted, drafted, seen, known_by, there_by}
+use Rattle.iris_dirtree.specs.Reached.{size, Past}
 use Rattle.iris_cache.proofs.Rising.{or-split}
-
--- how many nodes stand at and below one
-abbrev pub size : Unfolded → ℕ
-size (Folder id label less more inside) = suc (size less + (size more + size inside))
-size (Leaf id label less more length counter versions) = suc (size less + (size more + size versions))
-size (Split file level index low high) = suc (size low + size high)
-size Absent = zero
-size (Even version) = zero
-size (Stored version bytes) = zero
 
 pub smaller : (u w : Unfolded) → IsAbove u w → size w < size u
 smaller (Folder id label less more inside) w (inl h) = let e = ap size h in omega (arith, e)
@@ -39,11 +31,6 @@ smaller (Split file level index low high) w (inr h) = let e = ap size h in omega
 smaller Absent w h = absurd h
 smaller (Even version) w h = absurd h
 smaller (Stored version bytes) w h = absurd h
-
--- so many seen nodes were met, each smaller than the one met before it, and each larger than a size
-abbrev pub Past : Shown → (Name → Option Node) → ℕ → ℕ → Type 0
-Past t s zero v = Unit {0}
-Past t s (suc k) v = (n : Name) × (u : Unfolded) × (t n ≡ Some u) × IsSome (s n) × (v < size u) × Past t s k (size u)
 
 pub past_less : (t : Shown) (s : Name → Option Node) (k v w : ℕ) → w ≤ v → Past t s k v → Past t s k w
 past_less t s zero v w le p = tt

@@ -1,6 +1,8 @@
 -- The way down from a root to the block at a place of the walk.
-use Rattle.std.proofs.Common.{◌≡◌, ◌+◌, ◌<◌, ◌≤◌, ◌++◌, inl, inr, ◌⊎◌, ℕ, suc, List, [], ◌∷◌, Bool, true, false, Option, Some, None, IsSome, MatchOption, refl, ap, sym, ◌∙◌, subst, arith, length}
-use Rattle.std.specs.Prelude.{slice_get}
+use Rattle.std.proofs.Common.{◌≡◌, ◌+◌, ◌<◌, inl, inr, ℕ, suc, [], true, false, Option, Some, None, IsSome, nat_lt, ◌-◌, refl, ap, sym, ◌∙◌, subst, arith, length}
+use Rattle.std.specs.Prelude.{slice_get, if◌then◌else◌}
+use Rattle.std.proofs.lemmas.Bool.{cond-true, cond-false}
+use Rattle.std.proofs.lemmas.Option.{slice_get_past}
 use Rattle.iris_name.specs.declared.name.FileId.{FileId}
 use Rattle.iris_name.specs.declared.name.Hash32.{Hash32}
 use Rattle.iris_name.specs.declared.name.Name.{Name}
@@ -10,8 +12,8 @@ use Rattle.iris_node.specs.declared.node.Link.{Link}
 use Rattle.iris_node.specs.declared.node.Node.{Node}
 use Rattle.iris_node.specs.declared.node.Node.TheVariants as node
 use Rattle.iris_node.specs.Fields.{EntryFields, PartFields}
-use Rattle.iris_node.specs.Local.{Local, SplitAt, led, led_by, local, local_of, entry_local}
-use Rattle.iris_node.specs.Trees.{Shown, IsTree, node_name}
+use Rattle.iris_node.specs.Local.{led, led_by, local, local_of, entry_local}
+use Rattle.iris_node.specs.Trees.{Shown, node_name}
 use Rattle.iris_node.specs.Unfolded.{Unfolded, Absent, Folder, Leaf, Even, Split, Stored, id_of, blocks}
 use Rattle.iris_node.specs.Walk.{walk}
 use Rattle.iris_node.proofs.Walking.{counted}
@@ -24,16 +26,17 @@ use Rattle.iris_cache.proofs.Children.{live-name}
 use Rattle.iris_cache.proofs.Lacking.{unknown}
 use Rattle.iris_dirtree.specs.Needs.{IsWanted}
 use Rattle.iris_dirtree.specs.Nodes.{node_blocks}
-use Rattle.iris_dirtree.specs.Places.{down_to, Rooted, whole_walk, way_to, IsOnWay, IsPlaceLack, LacksPlace}
+use Rattle.iris_dirtree.specs.Places.{down_to, Rooted, whole_walk, IsOnWay, IsPlaceLack}
 use Rattle.iris_dirtree.specs.Turns.{IsTurn, block_found}
 use Rattle.iris_dirtree.specs.Ways.{Any}
 use Rattle.iris_dirtree.specs.Below.{RootIs, IsBelow, LacksBelow, IsBelowLack}
+use Rattle.iris_dirtree.specs.Reached.{size, Past, Stand}
 use Rattle.iris_dirtree.specs.Found.{entry_in}
 use Rattle.iris_dirtree.specs.declared.placing.Turn.TheVariants.{Own, Under}
 use Rattle.iris_dirtree.proofs.Sees.{Sees, sees_drafts, root_wanted}
-use Rattle.iris_dirtree.proofs.Pasts.{Past, past_bound, size}
-use Rattle.iris_dirtree.proofs.Stands.{Stand, Way, way_down, is_entry, root_name, led_named}
-use Rattle.iris_dirtree.proofs.Blocks.{Turned, turned, turned_own, walk_none, like_blocks, get_left, get_right}
+use Rattle.iris_dirtree.proofs.Pasts.{past_bound}
+use Rattle.iris_dirtree.proofs.Stands.{way_down, is_entry, root_name, led_named}
+use Rattle.iris_dirtree.proofs.Blocks.{turned, turned_own, walk_none, like_blocks, get_left, get_right, is_less, is_not_less}
 
 -- how far the way down to a block has come: the block lies at a place of the walk under a link
 pub record Sunk (root : FileId) (old new : Shown) (d : Drafted) (c : Resident) (top : Unfolded) (at : ℕ) (l : Link) (place k : ℕ) : Type 0 where
@@ -76,7 +79,10 @@ module _ (root : FileId) (d : Drafted) (c : Resident) (old new : Shown) (top : U
       record {
         under = top;
         stand = record { live = is.live; wanted = λ missing. root_wanted old new d c see (name.Entry root) top (Hash h) (root_name root lt) tt is.live missing };
-        past = tt; same = refl; on = inl refl; met = λ n h. h;
+        past = tt;
+        same = refl;
+        on = inl refl;
+        met = λ n h. h;
       }
 
   -- the entry under a name, as it is seen
@@ -122,7 +128,10 @@ module _ (root : FileId) (d : Drafted) (c : Resident) (old new : Shown) (top : U
           let n = name.Entry l.id in
           let w = way_down old new d c see n s.under r.under (node.Entry e) (Some next) k s.stand.live (is_entry (seen d c n) e there) r.above r.leads r.holds s.past in
           record {
-            under = r.under; stand = w.stands next refl; past = w.past; same = sym r.same ∙ s.same;
+            under = r.under;
+            stand = w.stands next refl;
+            past = w.past;
+            same = sym r.same ∙ s.same;
             on = inr (s.met (name.Entry next.id) (r.met (name.Entry next.id) (down_head r.under next rest r.leads (led_named r.under next r.leads))));
             met = λ m h. s.met m (r.met m h);
           }
@@ -138,3 +147,54 @@ below_lack root d c at e id h is missing needed =
     let u = unknown d c (name.Entry id) missing in
     let lacks : LacksBelow root d c at (name.Entry id) (Hash h) = record { unset = u.0; absent = u.1; needed = needed } in
     subst (λ e. IsBelowLack root d c at e) (sym is) lacks
+
+-- ---- both roots
+
+pub root_of : (d : Drafted) (c : Resident) (old new : Shown) (root trash : Unfolded) → Rooted d c old new root trash → RootIs (id_of 0) d c old new root
+root_of d c old new root trash pic = record { was = pic.was; is = pic.is; drafts = pic.drafts; live = pic.root_is }
+
+pub trash_of : (d : Drafted) (c : Resident) (old new : Shown) (root trash : Unfolded) → Rooted d c old new root trash → RootIs (id_of 1) d c old new trash
+trash_of d c old new root trash pic = record { was = pic.was; is = pic.is; drafts = pic.drafts; live = pic.trash_is }
+
+-- a place of the walk under the visible root, and one under the trash
+pub walk_first : (root trash : Unfolded) (at : ℕ) → at < blocks root → slice_get (walk root) at ≡ slice_get (whole_walk root trash) at
+walk_first root trash at lt = let n = counted root in sym (get_left (walk root) (walk trash) at (omega arith))
+
+pub walk_second : (root trash : Unfolded) (at rest : ℕ) → at ≡ blocks root + rest → slice_get (walk trash) rest ≡ slice_get (whole_walk root trash) at
+walk_second root trash at rest e = let n = counted root in sym (get_right (walk root) (walk trash) rest at (omega arith))
+
+pub walk_past : (root trash : Unfolded) (at rest more : ℕ) → at ≡ blocks root + rest → rest ≡ blocks trash + more → None ≡ slice_get (whole_walk root trash) at
+walk_past root trash at rest more e f = let n = counted trash in sym (slice_get_past (walk trash) rest (omega arith)) ∙ walk_second root trash at rest e
+
+way_first : (n : Name) (root trash : Unfolded) (at : ℕ) → at < blocks root → IsBelow (id_of 0) at root n → IsOnWay at root trash n
+way_first n root trash at lt (inl e) = inl e
+way_first n root trash at lt (inr m) = inr (inr (subst (λ ids. Any (λ i. n ≡ name.Entry (id_of i)) ids) (sym (cond-true (nat_lt at (blocks root)) (down_to at root) _ (is_less at (blocks root) lt))) m))
+
+way_second : (n : Name) (root trash : Unfolded) (at rest : ℕ) → at ≡ blocks root + rest → rest < blocks trash → IsBelow (id_of 1) rest trash n → IsOnWay at root trash n
+way_second n root trash at rest e lt (inl f) = inr (inl f)
+way_second n root trash at rest e lt (inr m) =
+    let z : rest ≡ at - blocks root = omega arith in
+    let ways = cond-false (nat_lt at (blocks root)) (down_to at root) (if nat_lt (at - blocks root) (blocks trash) then down_to (at - blocks root) trash else []) (is_not_less at (blocks root) (omega arith))
+    ∙ cond-true (nat_lt (at - blocks root) (blocks trash)) (down_to (at - blocks root) trash) [] (is_less (at - blocks root) (blocks trash) (omega arith)) ∙ ap (λ r. down_to r trash) (sym z) in
+    inr (inr (subst (λ ids. Any (λ i. n ≡ name.Entry (id_of i)) ids) (sym ways) m))
+
+pub first_lack : (d : Drafted) (c : Resident) (at : ℕ) (e : Short) → ((old new : Shown) (root : Unfolded) → RootIs (id_of 0) d c old new root → at < blocks root) → IsBelowLack (id_of 0) d c at e → IsPlaceLack d c at e
+first_lack d c at (Need n x) less h = record {
+  unset = h.unset;
+  absent = h.absent;
+  needed = λ old new root trash pic. let r = root_of d c old new root trash pic in let w = h.needed old new root r in (way_first n root trash at (less old new root r) w.0, w.1);
+}
+first_lack d c at NoMemory less h = absurd h
+
+pub second_lack : (d : Drafted) (c : Resident) (at rest : ℕ) (e : Short) → ((old new : Shown) (root : Unfolded) → RootIs (id_of 0) d c old new root → at ≡ blocks root + rest) → ((old new : Shown) (trash : Unfolded) → RootIs (id_of 1) d c old new trash → rest < blocks trash)
+    → IsBelowLack (id_of 1) d c rest e → IsPlaceLack d c at e
+second_lack d c at rest (Need n x) past less h = record {
+  unset = h.unset;
+  absent = h.absent;
+  needed = λ old new root trash pic.
+      let r = root_of d c old new root trash pic in
+      let t = trash_of d c old new root trash pic in
+      let w = h.needed old new trash t in
+      (way_second n root trash at rest (past old new root r) (less old new trash t) w.0, w.1);
+}
+second_lack d c at rest NoMemory past less h = absurd h

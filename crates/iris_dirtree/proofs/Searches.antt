@@ -17,11 +17,12 @@ use Rattle.iris_cache.specs.Drafted.{Drafted, seen, known}
 use Rattle.iris_dirtree.specs.Rows.{Row, row_name, entries, up}
 use Rattle.iris_dirtree.specs.Ways.{Any, along, along_name, before, is_named, IsNamed}
 use Rattle.iris_dirtree.specs.Needs.{IsWanted, Listed}
+use Rattle.iris_dirtree.specs.Reached.{Way}
 use Rattle.iris_dirtree.specs.Found.{entry_in, inside}
 use Rattle.iris_dirtree.proofs.Sees.{Sees, sees_drafts}
 use Rattle.iris_dirtree.proofs.Likes.{leads_empty, leads_over}
 use Rattle.iris_dirtree.proofs.Pasts.{past_bound}
-use Rattle.iris_dirtree.proofs.Stands.{Way, Here, here, no_entry, top_way}
+use Rattle.iris_dirtree.proofs.Stands.{Here, here, no_entry, top_way}
 use Rattle.iris_dirtree.proofs.Downs.{Down, here as at_top, less, more, down_along, down_rows, down_none, less_same, any_right}
 
 -- how far a search has come: the row, if there is one, stands below a link

@@ -26,20 +26,10 @@ use Rattle.iris_dirtree.specs.Rows.{Row, row_entry, entries, up, HasRows, IsRoot
 use Rattle.iris_dirtree.specs.Ways.{Any}
 use Rattle.iris_dirtree.specs.Needs.{IsWanted, IsDirectory, IsDirNode, IsLack, Lacks, Listed}
 use Rattle.iris_dirtree.specs.Found.{entry_in, inside, body_inside}
+use Rattle.iris_dirtree.specs.Reached.{size, Past, Way}
 use Rattle.iris_dirtree.proofs.Sees.{Sees, sees_drafts, wanted, root_wanted, some_node}
 use Rattle.iris_dirtree.proofs.Likes.{roof, LikeRow, like_row, like_part, leads_over, lead_id, above_less, above_more}
-use Rattle.iris_dirtree.proofs.Pasts.{Past, past_more, size}
-
--- a link leads here: it is live, and where it is missing it is wanted with the link's hash
-pub record Stand (old new : Shown) (d : Drafted) (c : Resident) (u : Unfolded) (l : Link) : Type 0 where
-  pub live : new (name.Entry l.id) ≡ Some u
-  pub wanted : known d c (name.Entry l.id) ≡ None → IsWanted old new c (name.Entry l.id) (Hash l.hash)
-
--- what a link that may be there leads to, after so many nodes
-pub record Way (old new : Shown) (d : Drafted) (c : Resident) (u : Unfolded) (at : Option Link) (k : ℕ) : Type 0 where
-  pub leads : led_by at ≡ led u
-  pub stands : (l : Link) → at ≡ Some l → Stand old new d c u l
-  pub past : Past new (seen d c) k (size u)
+use Rattle.iris_dirtree.proofs.Pasts.{past_more}
 
 lead_named : (i : ℕ) (l : Link) (b : ℕ) → led_by (Some l) ≡ Some (record { id = i; blocks = b }) → Some (name.Entry (id_of i)) ≡ Some (name.Entry l.id)
 lead_named i l b h = let e : l.id.0 ≡ i = ap (λ o. lead_id o 0) h in ap (λ i. Some (name.Entry (id_of i))) (sym e)
@@ -115,7 +105,12 @@ module _ (old new : Shown) (d : Drafted) (c : Resident) (see : Sees old new d c)
       let like = like_row t.row (entries t.less) (entries t.more) e (subst (λ o. IsLike o (node.Entry e)) live (see.nodes n (node.Entry e) sees)) in
       let past = subst (λ w. Past new (seen d c) k (size (entries w))) t.is way.past in
       record {
-        row = t.row; less = t.less; more = t.more; is = t.is; id_is = t.id_is; like = like;
+        row = t.row;
+        less = t.less;
+        more = t.more;
+        is = t.is;
+        id_is = t.id_is;
+        like = like;
         left = way_down n u (entries t.less) (node.Entry e) e.left k live sees (above_less t.row.id t.row.name t.row.content (entries t.less) (entries t.more)) like.left_is (λ m q. inl (link_holds e.left m q)) past;
         right = way_down n u (entries t.more) (node.Entry e) e.right k live sees (above_more t.row.id t.row.name t.row.content (entries t.less) (entries t.more)) like.right_is (λ m q. inr (inl (link_holds e.right m q))) past;
       }

@@ -10,6 +10,8 @@ pub mod Splits
 pub mod Counts
 pub mod Lags
 pub mod Found
+pub mod Reached
+pub mod Piles
 pub mod Turns
 pub mod Below
 pub mod Steps

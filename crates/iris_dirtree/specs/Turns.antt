@@ -1,5 +1,5 @@
 -- Where a block lies below an entry, by counts.
-use Rattle.std.specs.Prelude.{◌≡◌, ◌<◌, ◌+◌, ◌⊎◌, ℕ, Option, Some, None}
+use Rattle.std.specs.Prelude.{◌≡◌, ◌<◌, ◌+◌, ◌⊎◌, ℕ, Option}
 use Rattle.std.specs.Option.{option_map}
 use Rattle.iris_name.specs.declared.name.FileId.{FileId}
 use Rattle.iris_node.specs.declared.node.Body.{Body}

@@ -14,8 +14,8 @@ use iris_cache::{Cache, Draft, Short};
 use iris_name::{Expect, FileId, Hash32, Name, Text};
 use iris_node::{Body, EntryNode, Link, Node};
 
-// The entry, if a node is one.
-fn as_entry<'a>(node: Option<&'a Node>) -> Option<&'a EntryNode>
+/// The entry, if a node is one.
+pub(crate) fn as_entry<'a>(node: Option<&'a Node>) -> Option<&'a EntryNode>
     ensures { option_copied result ≡ entry_in (option_copied node.entry) }
 {
     match node {

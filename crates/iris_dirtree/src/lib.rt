@@ -7,6 +7,7 @@ mod hashes;
 mod inserting;
 pub mod kinds;
 pub mod laws;
+pub mod listing;
 mod nodes;
 pub mod placing;
 mod removing;
@@ -17,3 +18,7 @@ pub use kinds::is_directory;
 pub use laws::{given_up, new_row_in_hand, nothing_in_hand};
 pub use placing::plan_place;
 pub use removing::plan_remove;
+pub use listing::plan_after;
+
+#[cfg(test)]
+mod tests;

@@ -1,11 +1,11 @@
 //! The block at a place of the walk over all blocks.
 
-ghost use Rattle.std.specs.Prelude.{◌≡◌, ◌+◌, ◌<◌, ◌≤◌, IfOk, IfErr, IfSome, IsSome, MatchOption, slice_get};
+ghost use Rattle.std.specs.Prelude.{◌≡◌, ◌+◌, ◌<◌, ◌≤◌, IfOk, IfErr, IfSome, IsSome, None, MatchOption, slice_get};
 ghost use Rattle.iris_node.specs.Trees.{Shown};
 ghost use Rattle.iris_node.specs.Unfolded.{Unfolded, blocks};
 ghost use Rattle.iris_node.specs.Walk.{walk};
 ghost use Rattle.iris_name.specs.declared.name.Name.TheVariants as name;
-ghost use Rattle.iris_cache.specs.Drafted.{seen};
+ghost use Rattle.iris_cache.specs.Drafted.{known, seen};
 ghost use Rattle.iris_dirtree.specs.Nodes.{link_blocks, own_blocks, node_blocks};
 ghost use Rattle.iris_dirtree.specs.Places.{Rooted, whole_walk, IsPlaceLack};
 ghost use Rattle.iris_dirtree.specs.Turns.{IsTurn, block_found};
@@ -14,7 +14,7 @@ ghost use Rattle.iris_dirtree.specs.Below.{RootIs, IsBelowLack};
 use crate::finding::{ANY_HASH, entry_seen, longest_way};
 use crate::nodes::own_blocks;
 use iris_cache::{Cache, Draft, Short};
-use iris_name::FileId;
+use iris_name::{Expect, FileId};
 use iris_node::{Body, EntryNode, Link};
 
 // Where a block lies, as seen from an entry: its own, or at a place of the walk under a link.
@@ -65,15 +65,10 @@ fn next_turn(entry: &EntryNode, at: u64) -> Turn
 }
 
 // A place past all blocks at and below a root.
-fn past_root(
-    draft: &Draft,
-    cache: &Cache,
-    root: FileId,
-    at: u64,
-) -> Result<Option<u64>, Short>
-    requires { root.0 < 2 }
+fn past_root(draft: &Draft, cache: &Cache, root: FileId, at: u64) -> Result<Option<u64>, Short>
     ensures past { IfOk result (λ r. (old new : Shown) → (u : Unfolded) → RootIs root draft.now cache.now old new u → MatchOption r (at < blocks u) (λ rest. at ≡ blocks u + rest)) }
-    ensures short { IfErr result (λ e. IsBelowLack root draft.now cache.now at e) }
+    ensures need { IfErr result (λ e. e ≡ Short.Need (name.Entry root) (Expect.Hash ANY_HASH)) }
+    ensures missing { IfErr result (λ _. known draft.now cache.now (name.Entry root) ≡ None) }
 {
     match entry_seen(draft, cache, root, ANY_HASH)? {
         None => Ok(Some(at)),
@@ -126,8 +121,8 @@ pub fn plan_place(draft: &Draft, cache: &Cache, at: u64) -> Result<Option<(FileI
     let Some(rest) = past_root(draft, cache, FileId(0), at)? else {
         return block_below(draft, cache, FileId(0), at);
     };
-    if past_root(draft, cache, FileId(1), rest)?.is_some() {
-        return Ok(None);
+    match past_root(draft, cache, FileId(1), rest)? {
+        None => block_below(draft, cache, FileId(1), rest),
+        Some(_) => Ok(None),
     }
-    block_below(draft, cache, FileId(1), rest)
 }
