@@ -60,7 +60,11 @@ module _ (old : Shown) (c : Resident) (t : Treap Row) where
       let here : IsSome (seen e c n) = is_there (seen e c n) (node.Entry x) sees in
       let E : (w : Treap Row) → Outside n w → Every (λ z. drafted e (entry_name z) ≡ drafted d (entry_name z)) w = λ w o. every_map (λ z. n ≢ entry_name z) (λ z. drafted e (entry_name z) ≡ drafted d (entry_name z)) w (λ z k. off (entry_name z) (λ h. k (sym h))) o in
       record {
-        front = front; done = Over y l m; is = is; crumbs = crumbs; leads = leads;
+        front = front;
+        done = Over y l m;
+        is = is;
+        crumbs = crumbs;
+        leads = leads;
         seated = (
           (λ node' g. same_seat e n (above p front) (row_entry y (entries l) (entries m)) (node.Entry x) node' sees g (record { like = seat.like; parent = hangs; there = stays (above p front) (above_seen old c t d p front es crumbs there); hashes = seat.hashes })),
           (λ none. absurd (not_both (seen e c n) (node.Entry x) sees none)),
