@@ -30,7 +30,8 @@ use Rattle.iris_dirtree.specs.Rows.{Row, HasRows, entries, row_entry, up}
 use Rattle.iris_dirtree.specs.Steps.{entry_name, WasHash, Seated, Outside}
 use Rattle.iris_dirtree.specs.Ways.{near_name}
 use Rattle.iris_dirtree.proofs.Likes.{Placed, placed_rows, top_parent, above_less, above_more, roof, like_row}
-use Rattle.iris_dirtree.proofs.Pasts.{size, smaller}
+use Rattle.iris_dirtree.specs.Reached.{size}
+use Rattle.iris_dirtree.proofs.Pasts.{smaller}
 use Rattle.iris_dirtree.proofs.Sees.{Sees, sees_drafts, wanted, root_wanted}
 use Rattle.iris_dirtree.proofs.Stands.{led_named, link_holds, top_way, root_name}
 

@@ -16,7 +16,8 @@ use Rattle.iris_dirtree.specs.Ways.{Any, before}
 use Rattle.iris_dirtree.specs.Planted.{IsRowName, IsWithin}
 use Rattle.iris_dirtree.specs.Grafts.{Fork, entry_name, forked, around, InRows, Once, TopBelow}
 use Rattle.iris_dirtree.proofs.Likes.{Placed, above_less, above_more}
-use Rattle.iris_dirtree.proofs.Pasts.{size, smaller}
+use Rattle.iris_dirtree.specs.Reached.{size}
+use Rattle.iris_dirtree.proofs.Pasts.{smaller}
 use Rattle.iris_dirtree.proofs.HeldHashes.{num_of}
 
 -- ---- lists of rows
