@@ -87,11 +87,11 @@ pub record IsMovable (key : List ℕ) (from : List (List ℕ)) (old new : Shown)
   pub leads : Resolves new key from (At id out)
   pub takes : Takes key out (last from) row rows new mid
 
--- a renaming with the row in hand lacks a name, that is met on going down towards the new name then
+-- A renaming with the row in hand lacks a name. It is one of those that are reached before the row is taken out.
 pub record LacksInHand (key : List ℕ) (from to : List (List ℕ)) (d : Drafted) (c : Resident) (n : Name) (x : Expect) : Type 0 where
   pub absent : held c n ≡ None
   pub needed : (met : List (List ℕ) → Seen) (old new : Shown) → Pictured key met d c old new → (m : IsMovable key from old new) (into beyond : FileId) (others : List Row)
-      → Resolves new key (parent to) (At into beyond) → HasRows m.mid key into others → (drafted d n ≡ None) × IsMet into (along_name (last to) key others) n × IsWanted old m.mid c n x
+      → Resolves new key (parent to) (At into beyond) → HasRows m.mid key into others → (drafted d n ≡ None) × IsMoved key from to new n × IsWanted old new c n x
 
 -- why a renaming stops
 abbrev pub IsMoveShort : List ℕ → List (List ℕ) → List (List ℕ) → Drafted → Resident → Short → Type 0
