@@ -30,11 +30,7 @@ use Rattle.iris_dirtree.specs.Rows.{Row, HasRows, entries, row_entry, up}
 use Rattle.iris_dirtree.specs.Steps.{entry_name, Seated, Outside}
 use Rattle.iris_dirtree.proofs.Likes.{Placed, placed_rows, top_parent, above_less, above_more, roof, like_row}
 use Rattle.iris_dirtree.specs.Reached.{size}
-<<<<<<< HEAD
 use Rattle.iris_dirtree.proofs.Sizes.{above_larger}
-=======
-use Rattle.iris_dirtree.proofs.Pasts.{smaller}
->>>>>>> fbf8a5a49cfdaf156001387c314b9903602f50f2
 use Rattle.iris_dirtree.proofs.Sees.{Sees, sees_drafts, wanted, root_wanted}
 use Rattle.iris_dirtree.proofs.Stands.{led_named, link_holds, top_way, root_name}
 

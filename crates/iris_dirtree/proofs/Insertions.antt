@@ -17,11 +17,7 @@ use Rattle.iris_dirtree.specs.Planted.{IsRowName, IsWithin}
 use Rattle.iris_dirtree.specs.Grafts.{Fork, entry_name, forked, around, InRows, Once, TopBelow}
 use Rattle.iris_dirtree.proofs.Likes.{Placed, above_less, above_more}
 use Rattle.iris_dirtree.specs.Reached.{size}
-<<<<<<< HEAD
 use Rattle.iris_dirtree.proofs.Sizes.{above_larger}
-=======
-use Rattle.iris_dirtree.proofs.Pasts.{smaller}
->>>>>>> fbf8a5a49cfdaf156001387c314b9903602f50f2
 use Rattle.iris_dirtree.proofs.HeldHashes.{num_of}
 
 -- ---- lists of rows
