@@ -26,9 +26,9 @@ use Rattle.iris_dirtree.specs.Splits.{IsKnown, Halved, Touches, Grows}
 use Rattle.iris_dirtree.proofs.Sees.{Sees}
 use Rattle.iris_dirtree.proofs.Likes.{Placed, Roof, above_less, above_more, top_parent}
 use Rattle.iris_dirtree.proofs.Recounts.{never_none}
-use Rattle.iris_dirtree.proofs.Fitting.{seen_same}
 use Rattle.iris_dirtree.proofs.Halving.{no_snoc}
 use Rattle.iris_dirtree.proofs.Insertions.{Built}
+use Rattle.iris_dirtree.proofs.Owned.{seen_same}
 
 -- ---- what a plan begins with
 

@@ -32,12 +32,13 @@ use Rattle.iris_dirtree.specs.Rows.{Row, Content, Directory, File, HasRows, IsCo
 use Rattle.iris_dirtree.specs.Steps.{entry_name, WasHash, Leads, Seated, Outside, Rising}
 use Rattle.iris_dirtree.specs.Ways.{Any, is_named}
 use Rattle.iris_dirtree.proofs.Begins.{Holder, dir_apart}
-use Rattle.iris_dirtree.proofs.Climbs.{seen_same, parent_same, is_there, there_same, seated_same}
+use Rattle.iris_dirtree.proofs.Climbs.{is_there, there_same, seated_same}
 use Rattle.iris_dirtree.proofs.Likes.{like_row, roof}
 use Rattle.iris_dirtree.proofs.Plants.{risen, likes_from, hang_from, stays_from, hashes_from}
 use Rattle.iris_dirtree.proofs.Rowed.{row_any}
 use Rattle.iris_dirtree.proofs.Sees.{Sees, sees_drafts}
 use Rattle.iris_dirtree.proofs.Withouts.{among_each, gone_one, only, any_without, apart_without, is_it, named_parts, outside_none, outside_not, any_named}
+use Rattle.iris_dirtree.proofs.Owned.{seen_same, parent_same}
 
 -- ---- one name changed
 
