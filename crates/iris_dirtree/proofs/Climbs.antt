@@ -25,24 +25,18 @@ use Rattle.iris_dirtree.specs.Planted.{IsWithin}
 use Rattle.iris_dirtree.specs.Rows.{Row, entries}
 use Rattle.iris_dirtree.specs.Steps.{Step, over, under, entry_name, above, crumb_above, WasHash, Seat, Seated, Leads, IsCrumb, AreCrumbs, Outside, Once, Rising}
 use Rattle.iris_dirtree.proofs.Likes.{like_row}
-use Rattle.iris_dirtree.proofs.Owned.{seen_same, parent_same, put_seen, put_parent, put_other}
+use Rattle.iris_dirtree.proofs.Owned.{seen_same, parent_same, put_seen, put_parent, put_other, still_seen, put_off}
 use Rattle.iris_dirtree.proofs.Steps.{turned_id, under_more, above_more, turned_like, made_leads, under_blocks, once_over, once_under, outside_over}
+use Rattle.iris_dirtree.proofs.There.{is_there}
 
 -- ---- what a draft says
-
-pub is_there : (o : Option Node) (x : Node) → o ≡ Some x → IsSome o
-is_there o x e = let P : Option Node → Type 0 = λ o. IsSome o in subst P (sym e) refl
 
 pub there_same : (o w : Option Node) → o ≡ w → IsSome w → IsSome o
 there_same o w e h = let P : Option Node → Type 0 = λ o. IsSome o in subst P (sym e) h
 
 -- what was seen is seen
 pub put_stays : (d e : Drafted) (c : Resident) (p : Option Name) (x : EntryFields) (n : Name) → IsPut d e p x → IsSome (seen d c n) → IsSome (seen e c n)
-put_stays d e c p x n put h = by (same_name (name.Entry x.id) n) refl
-  where
-    by : (b : Bool) → same_name (name.Entry x.id) n ≡ b → IsSome (seen e c n)
-    by true g = let P : Name → Type 0 = λ n. IsSome (seen e c n) in subst P (same_name-true (name.Entry x.id) n g) (is_there (seen e c (name.Entry x.id)) (node.Entry x) (put_seen d e c p x put))
-    by false g = there_same (seen e c n) (seen d c n) (seen_same d e c n (put n ∙ ap (λ b. cond b (Some (set_to p (node.Entry x))) (drafted d n)) g)) h
+put_stays d e c p x n put h = still_seen d e c (name.Entry x.id) (node.Entry x) (put_seen d e c p x put) (λ m off. put_off d e p x m put off) n h
 
 -- ---- seats
 

@@ -24,11 +24,12 @@ use Rattle.iris_dirtree.specs.Nodes.{IsPut}
 use Rattle.iris_dirtree.specs.Planted.{IsRowName, Likes, Hang, Stays}
 use Rattle.iris_dirtree.specs.Rows.{Row, entries, row_entry}
 use Rattle.iris_dirtree.specs.Steps.{Step, under, entry_name, above, crumb_above, WasHash, Seat, Seated, Leads, AreCrumbs, Outside, Once, Rising}
-use Rattle.iris_dirtree.proofs.Climbs.{put_stays, is_there, seated_same, crumbs_above, above_seen}
+use Rattle.iris_dirtree.proofs.Climbs.{put_stays, seated_same, crumbs_above, above_seen}
 use Rattle.iris_dirtree.proofs.Likes.{like_row, like_part, leads_over, leads_empty}
 use Rattle.iris_dirtree.proofs.Steps.{once_under}
 use Rattle.iris_dirtree.proofs.Downs.{any_split}
 use Rattle.iris_dirtree.proofs.Owned.{put_other, put_seen, put_parent}
+use Rattle.iris_dirtree.proofs.There.{is_there}
 
 -- ---- what is left at the end moves as a whole
 

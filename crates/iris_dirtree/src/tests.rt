@@ -101,11 +101,7 @@ fn lacks_a_missing_entry(rt: HostRuntime) -> Result<(), Fail> {
     let found = plan_find(&draft, &cache, FileId(0), &text(alloc, "ccc")?);
     assert_eq!(rt; found, Ok(Some(FileId(3))));
     let page = plan_after(alloc, &draft, &cache, FileId(0), &text(alloc, "")?, 1)?;
-    assert_eq!(rt;
-        page.as_slice().len(),
-        1,
-        "one name, without the entry after it"
-    );
+    assert_eq!(rt; page.as_slice().len(), 1, "one name, without the entry after it");
     Ok(())
 }
 
