@@ -31,11 +31,12 @@ use Rattle.iris_dirtree.specs.Planted.{Planted, IsOver, IsRowName, IsWithin, nex
 use Rattle.iris_dirtree.specs.Rows.{Row, HasRows, IsFolderOf, Rearranges, IsElsewhere, has_id, row_id, row_name, row_entry, entries, below_row, refilled, arranged, up}
 use Rattle.iris_dirtree.specs.Ways.{Any, is_named}
 use Rattle.iris_dirtree.proofs.Likes.{Placed, Roof, roof, placed_rows}
-use Rattle.iris_dirtree.proofs.Recounts.{got, is_there, one_of, like_said, said_like}
+use Rattle.iris_dirtree.proofs.Recounts.{like_said, said_like}
 use Rattle.iris_dirtree.proofs.Refills.{lies, untouched, refilled_name, lies_named, lies_up, lies_over, refilled_counts}
 use Rattle.iris_dirtree.proofs.Rowed.{IsIn, any_row, row_any, has_in, in_has, within_rows, Within, rows_within, less_within, more_within, entries_topped, placed_at, likes_at, stays_at, Stands, stands, over_at, Hung, hung_at, above_row, above_content}
 use Rattle.iris_dirtree.proofs.Moved.{each_in, distinct_same, in_put, put_in, put_here, in_without, without_in, named_self, named_same}
 use Rattle.iris_dirtree.proofs.Sizes.{never_over, none_over, over_through}
+use Rattle.iris_dirtree.proofs.There.{got, is_there, one_of}
 
 -- From a list of rows to another, where a row that comes was in hand and one that goes gets into hand.
 pub record Moves (before after : List Row) (from to : Option Row) : Type 0 where

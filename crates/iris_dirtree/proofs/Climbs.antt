@@ -15,9 +15,9 @@ use Rattle.iris_node.specs.Trees.{Shown}
 use Rattle.iris_node.specs.Unfolded.{id_of, blocks}
 use Rattle.iris_shape.specs.Treap.{Treap, Empty, Over, Every}
 use Rattle.iris_shape.proofs.Treaps.{every_map}
-use Rattle.iris_cache.specs.Resident.{Resident, held}
-use Rattle.iris_cache.specs.Drafted.{Drafted, drafted, seen, known_by, there_by, set_to}
-use Rattle.iris_cache.specs.Pictures.{Holds, IsLike, parent_after, parent_by}
+use Rattle.iris_cache.specs.Resident.{Resident}
+use Rattle.iris_cache.specs.Drafted.{Drafted, drafted, seen, set_to}
+use Rattle.iris_cache.specs.Pictures.{Holds, IsLike, parent_after}
 use Rattle.iris_dirtree.specs.declared.removing.Crumb.{Crumb}
 use Rattle.iris_dirtree.specs.Counts.{IsEntryName}
 use Rattle.iris_dirtree.specs.Nodes.{IsPut, turned, LinksTo}
@@ -25,43 +25,18 @@ use Rattle.iris_dirtree.specs.Planted.{IsWithin}
 use Rattle.iris_dirtree.specs.Rows.{Row, entries}
 use Rattle.iris_dirtree.specs.Steps.{Step, over, under, entry_name, above, crumb_above, WasHash, Seat, Seated, Leads, IsCrumb, AreCrumbs, Outside, Once, Rising}
 use Rattle.iris_dirtree.proofs.Likes.{like_row}
-use Rattle.iris_dirtree.proofs.Owned.{put_at}
+use Rattle.iris_dirtree.proofs.Owned.{seen_same, parent_same, put_seen, put_parent, put_other, still_seen, put_off}
 use Rattle.iris_dirtree.proofs.Steps.{turned_id, under_more, above_more, turned_like, made_leads, under_blocks, once_over, once_under, outside_over}
+use Rattle.iris_dirtree.proofs.There.{is_there}
 
 -- ---- what a draft says
-
-pub seen_same : (d e : Drafted) (c : Resident) (n : Name) → drafted e n ≡ drafted d n → seen e c n ≡ seen d c n
-seen_same d e c n h = ap (λ o. there_by (known_by o (held c n))) h
-
-pub parent_same : (d e : Drafted) (c : Resident) (n : Name) → drafted e n ≡ drafted d n → parent_after e c n ≡ parent_after d c n
-parent_same d e c n h = ap (λ o. parent_by o (held c n)) h
-
-pub put_apart : (d e : Drafted) (p : Option Name) (x : EntryFields) (n : Name) → IsPut d e p x → n ≢ name.Entry x.id → drafted e n ≡ drafted d n
-put_apart d e p x n put off = by (same_name (name.Entry x.id) n) refl
-  where
-    by : (b : Bool) → same_name (name.Entry x.id) n ≡ b → drafted e n ≡ drafted d n
-    by true h = absurd (off (sym (same_name-true (name.Entry x.id) n h)))
-    by false h = put n ∙ ap (λ b. cond b (Some (set_to p (node.Entry x))) (drafted d n)) h
-
-pub put_seen : (d e : Drafted) (c : Resident) (p : Option Name) (x : EntryFields) → IsPut d e p x → seen e c (name.Entry x.id) ≡ Some (node.Entry x)
-put_seen d e c p x put = ap (λ o. there_by (known_by o (held c (name.Entry x.id)))) (put_at d e p x put)
-
-pub put_parent : (d e : Drafted) (c : Resident) (p : Option Name) (x : EntryFields) → IsPut d e p x → parent_after e c (name.Entry x.id) ≡ p
-put_parent d e c p x put = ap (λ o. parent_by o (held c (name.Entry x.id))) (put_at d e p x put)
-
-pub is_there : (o : Option Node) (x : Node) → o ≡ Some x → IsSome o
-is_there o x e = let P : Option Node → Type 0 = λ o. IsSome o in subst P (sym e) refl
 
 pub there_same : (o w : Option Node) → o ≡ w → IsSome w → IsSome o
 there_same o w e h = let P : Option Node → Type 0 = λ o. IsSome o in subst P (sym e) h
 
 -- what was seen is seen
 pub put_stays : (d e : Drafted) (c : Resident) (p : Option Name) (x : EntryFields) (n : Name) → IsPut d e p x → IsSome (seen d c n) → IsSome (seen e c n)
-put_stays d e c p x n put h = by (same_name (name.Entry x.id) n) refl
-  where
-    by : (b : Bool) → same_name (name.Entry x.id) n ≡ b → IsSome (seen e c n)
-    by true g = let P : Name → Type 0 = λ n. IsSome (seen e c n) in subst P (same_name-true (name.Entry x.id) n g) (is_there (seen e c (name.Entry x.id)) (node.Entry x) (put_seen d e c p x put))
-    by false g = there_same (seen e c n) (seen d c n) (seen_same d e c n (put n ∙ ap (λ b. cond b (Some (set_to p (node.Entry x))) (drafted d n)) g)) h
+put_stays d e c p x n put h = still_seen d e c (name.Entry x.id) (node.Entry x) (put_seen d e c p x put) (λ m off. put_off d e p x m put off) n h
 
 -- ---- seats
 
@@ -172,7 +147,7 @@ module _ (old : Shown) (c : Resident) (t : Treap Row) where
       let id : name.Entry tn.id ≡ n = ap name.Entry (turned_id crumb.right link crumb.node) ∙ crumb_id d x crumb r.crumb in
       let sees : seen f c n ≡ Some (node.Entry tn) = ap (seen f c) (sym id) ∙ put_seen e f c (Some q) tn put in
       let hangs : parent_after f c n ≡ Some (above (name.Entry dir) r.steps) = ap (parent_after f c) (sym id) ∙ put_parent e f c (Some q) tn put ∙ ap Some top in
-      let off : (m : Name) → m ≢ n → drafted f m ≡ drafted e m = λ m a. put_apart e f (Some q) tn m put (λ b. a (b ∙ id)) in
+      let off : (m : Name) → m ≢ n → drafted f m ≡ drafted e m = λ m a. put_other e f (Some q) tn m put (λ b. a (b ∙ id)) in
       let stays : (m : Name) → IsSome (seen d c m) → IsSome (seen f c m) = λ m h. put_stays e f c (Some q) tn m put (rise.stays m h) in
       let here : IsSome (seen f c n) = is_there (seen f c n) (node.Entry tn) sees in
       let at : above (name.Entry dir) rise.front ≡ n = ap (above (name.Entry dir)) r.is ∙ above_more (name.Entry dir) r.steps x in
@@ -218,4 +193,4 @@ module _ (old : Shown) (c : Resident) (t : Treap Row) where
 
 -- a name of another kind isn't changed
 pub put_others : (d e f : Drafted) (p : Option Name) (x : EntryFields) → IsPut e f p x → ((n : Name) → (IsEntryName n → ⊥) → drafted e n ≡ drafted d n) → (n : Name) → (IsEntryName n → ⊥) → drafted f n ≡ drafted d n
-put_others d e f p x put others n kind = put_apart e f p x n put (λ h. kind (let P : Name → Type 0 = IsEntryName in subst P (sym h) tt)) ∙ others n kind
+put_others d e f p x put others n kind = put_other e f p x n put (λ h. kind (let P : Name → Type 0 = IsEntryName in subst P (sym h) tt)) ∙ others n kind

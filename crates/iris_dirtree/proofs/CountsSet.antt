@@ -14,8 +14,8 @@ use Rattle.iris_cache.specs.Drafted.{Drafted, drafted, seen, known_by, there_by,
 use Rattle.iris_cache.specs.Pictures.{parent_after, parent_by}
 use Rattle.iris_dirtree.specs.Counts.{said_count, counted_entry, counted_node, IsEntryName, Recounts}
 use Rattle.iris_dirtree.specs.Nodes.{IsPut}
-use Rattle.iris_dirtree.proofs.Owned.{put_at, put_off}
-use Rattle.iris_dirtree.proofs.Recounts.{is_there, one_of}
+use Rattle.iris_dirtree.proofs.Owned.{put_at, put_off, still_seen}
+use Rattle.iris_dirtree.proofs.There.{one_of}
 
 module _ (d e : Drafted) (c : Resident) (child p : Name) (k : Node) (x w : EntryFields) (blocks : ℕ) (above : Option Name)
     (there : seen d c child ≡ Some k) (count : said_count (local_of k) < 2 ^ 64 → blocks ≡ said_count (local_of k)) (own : name.Entry x.id ≡ p) (at : seen d c p ≡ Some (node.Entry x))
@@ -36,10 +36,6 @@ module _ (d e : Drafted) (c : Resident) (child p : Name) (k : Node) (x w : Entry
   parents-by n true b = subst (λ m. parent_after e c m ≡ parent_after d c m) (same_name-true p n b) (ap (λ o. parent_by o (held c p)) drafts ∙ up)
   parents-by n false b = ap (λ o. parent_by o (held c n)) (off n b)
 
-  stays-by : (n : Name) (b : Bool) → same_name p n ≡ b → IsSome (seen d c n) → IsSome (seen e c n)
-  stays-by n true b s = subst (λ m. IsSome (seen e c m)) (same_name-true p n b) (is_there (seen e c p) (node.Entry w) now)
-  stays-by n false b s = subst IsSome (ap (λ o. there_by (known_by o (held c n))) (sym (off n b))) s
-
   off-entry : (n : Name) → (IsEntryName n → ⊥) → same_name (name.Entry w.id) n ≡ false
   off-entry (name.Entry id) never = absurd (never tt)
   off-entry (name.Part file level index) never = refl
@@ -56,7 +52,7 @@ module _ (d e : Drafted) (c : Resident) (child p : Name) (k : Node) (x w : Entry
   recounts = record {
     counted_so = counts;
     parents = λ n. parents-by n (same_name p n) refl;
-    stays = λ n s. stays-by n (same_name p n) refl s;
+    stays = still_seen d e c p (node.Entry w) now off;
     others = off;
     entries = λ n never. put_off d e above w n put (off-entry n never);
   }

@@ -1,6 +1,6 @@
 -- Ways down a treap towards a name.
 use Rattle.std.proofs.lemmas.Bool.Decides.{nat_tests}
-use Rattle.std.proofs.Common.{◌≡◌, ◌&&◌, ◌||◌, ◌==◌, nat_lt, arith, not, ◌++◌, inl, inr, ℕ, List, [], ◌∷◌, Bool, true, false, cond, refl, ap, sym, ◌∙◌, subst, true≢false}
+use Rattle.std.proofs.Common.{◌≡◌, ◌&&◌, ◌||◌, ◌==◌, nat_lt, arith, not, ◌++◌, ◌⊎◌, inl, inr, ℕ, List, [], ◌∷◌, Bool, true, false, cond, refl, ap, sym, ◌∙◌, subst, true≢false}
 use Rattle.std.proofs.lemmas.Bool.{both_ways, cond-true, cond-false}
 use Rattle.iris_shape.specs.Treap.{Treap, Over, rows, Each}
 use Rattle.iris_shape.specs.Order.{less_name, Rising}
@@ -22,6 +22,11 @@ any_left P (x ∷ a) b (inr h) = inr (any_left P a b h)
 pub any_right : {A : Type 0} (P : A → Type 0) (a b : List A) → Any P b → Any P (a ++ b)
 any_right P [] b h = h
 any_right P (x ∷ a) b h = inr (any_right P a b h)
+
+pub any_split : {A : Type 0} (P : A → Type 0) (a b : List A) → Any P (a ++ b) → Any P a ⊎ Any P b
+any_split P [] b h = inr h
+any_split P (y ∷ a) b (inl h) = inl (inl h)
+any_split P (y ∷ a) b (inr h) = elim (any_split P a b h) [ inl k ↦ inl (inr k) | inr k ↦ inr k ]
 
 pub each_map : {A : Type 0} (P Q : A → Type 0) (xs : List A) → ((z : A) → P z → Q z) → Each P xs → Each Q xs
 each_map P Q [] f h = tt

@@ -8,22 +8,21 @@ use Rattle.iris_name.specs.declared.name.Name.TheVariants as name
 use Rattle.iris_node.specs.declared.node.Body.{Body}
 use Rattle.iris_node.specs.declared.node.Body.TheVariants.{Dir, File as FileBody}
 use Rattle.iris_node.specs.declared.node.Link.{Link}
-use Rattle.iris_node.specs.declared.node.Node.{Node}
 use Rattle.iris_node.specs.declared.node.Node.TheVariants as node
 use Rattle.iris_node.specs.Fields.{EntryFields}
 use Rattle.iris_node.specs.Local.{Lead, led, led_by, local, entry_local}
 use Rattle.iris_node.specs.Trees.{Shown}
 use Rattle.iris_node.specs.Unfolded.{Unfolded, Absent, Folder, Leaf, Even, Split, Stored, id_of, blocks}
 use Rattle.iris_shape.specs.Treap.{Treap, Empty, Over}
-use Rattle.iris_cache.specs.Resident.{Resident, held}
-use Rattle.iris_cache.specs.Drafted.{Drafted, drafted, seen, known_by, there_by, set_to}
-use Rattle.iris_cache.specs.Pictures.{Holds, IsLike, LinkHolds, parent_after, parent_by}
+use Rattle.iris_cache.specs.Resident.{Resident}
+use Rattle.iris_cache.specs.Drafted.{Drafted, drafted, seen}
+use Rattle.iris_cache.specs.Pictures.{Holds, IsLike, LinkHolds, parent_after}
 use Rattle.iris_dirtree.specs.Rows.{Row, Content, Directory, File, entries, entry_of, row_entry}
 use Rattle.iris_dirtree.specs.Hands.{IsRowNode, HoldsTrue}
 use Rattle.iris_dirtree.specs.Nodes.{turned, between, link_blocks, own_blocks, node_blocks, LinksTo, IsPut}
 use Rattle.iris_dirtree.specs.Grafts.{Fork, entry_name, forked, around, over, InRows, Once, WasHash, Fits, Leads}
 use Rattle.iris_dirtree.proofs.Likes.{like_row}
-use Rattle.iris_dirtree.proofs.Owned.{put_at, put_off}
+use Rattle.iris_dirtree.proofs.Owned.{put_off, seen_same, parent_same, put_other, put_seen, put_parent}
 
 -- ---- counts
 
@@ -142,26 +141,6 @@ leads_to old c y l m e h k like few links was =
 
 -- ---- what is seen once an entry is set
 
-node_of_change : (d e : Drafted) (c : Resident) (n : Name) (p : Option Name) (x : Node) → drafted e n ≡ Some (set_to p x) → (seen e c n ≡ Some x) × (parent_after e c n ≡ p)
-node_of_change d e c n p x h = (ap (λ o. there_by (known_by o (held c n))) h, ap (λ o. parent_by o (held c n)) h)
-
-pub seen_same : (d e : Drafted) (c : Resident) (n : Name) → drafted e n ≡ drafted d n → seen e c n ≡ seen d c n
-seen_same d e c n h = ap (λ o. there_by (known_by o (held c n))) h
-
-pub over_same : (d e : Drafted) (c : Resident) (n : Name) → drafted e n ≡ drafted d n → parent_after e c n ≡ parent_after d c n
-over_same d e c n h = ap (λ o. parent_by o (held c n)) h
-
-pub seen_put : (d e : Drafted) (c : Resident) (p : Option Name) (x : EntryFields) → IsPut d e p x → (seen e c (name.Entry x.id) ≡ Some (node.Entry x)) × (parent_after e c (name.Entry x.id) ≡ p)
-seen_put d e c p x put = node_of_change d e c (name.Entry x.id) p (node.Entry x) (put_at d e p x put)
-
-pub other_name : (n q : Name) (b : Bool) → same_name n q ≡ b → (q ≡ n → ⊥) → same_name n q ≡ false
-other_name n q true e off = absurd (off (sym (same_name-true n q e)))
-other_name n q false e off = e
-
--- another name stays
-pub put_other : (d e : Drafted) (p : Option Name) (x : EntryFields) (q : Name) → IsPut d e p x → (q ≡ name.Entry x.id → ⊥) → drafted e q ≡ drafted d q
-put_other d e p x q put off = put_off d e p x q put (other_name (name.Entry x.id) q (same_name (name.Entry x.id) q) refl off)
-
 put_case : (d e : Drafted) (p : Option Name) (x : EntryFields) (q : Name) (b : Bool) → same_name (name.Entry x.id) q ≡ b → IsPut d e p x → (drafted e q ≡ drafted d q) ⊎ (q ≡ name.Entry x.id)
 put_case d e p x q true s put = inr (sym (same_name-true (name.Entry x.id) q s))
 put_case d e p x q false s put = inl (put_off d e p x q put s)
@@ -177,7 +156,7 @@ module _ (old : Shown) (c : Resident) (known : Name → Type 0) where
   fits_frame d e p (Over y l m) same h =
       let n = entry_name y in
       let k = same n (inl refl) in (
-        (λ x at. let f = h.0 x (sym (seen_same d e c n k) ∙ at) in record { like = f.like; hangs = over_same d e c n k ∙ f.hangs; above = f.above; hashes = f.hashes }),
+        (λ x at. let f = h.0 x (sym (seen_same d e c n k) ∙ at) in record { like = f.like; hangs = parent_same d e c n k ∙ f.hangs; above = f.above; hashes = f.hashes }),
         fits_frame d e n l (λ q i. same q (inr (inl i))) h.1,
         fits_frame d e n m (λ q i. same q (inr (inr i))) h.2,
       )
@@ -187,14 +166,13 @@ module _ (old : Shown) (c : Resident) (known : Name → Type 0) where
       → ((q : Name) (h : Hash32) → Holds (node.Entry x) q h → WasHash old c q h) → (InRows (entry_name y) l → ⊥) → (InRows (entry_name y) m → ⊥) → Fits old c known d (entry_name y) l → Fits old c known d (entry_name y) m → Fits old c known e p (Over y l m)
   fits_set d e p y l m x id put like there hashes out_l out_m fl fm =
       let n = entry_name y in
-      let s = seen_put d e c (Some p) x put in
       let off : (t : Treap Row) → (InRows n t → ⊥) → (q : Name) → InRows q t → drafted e q ≡ drafted d q = λ t out q i. put_other d e (Some p) x q put (λ r. out (subst (λ z. InRows z t) (r ∙ id) i)) in (
         (λ z at.
-            let is : Some (node.Entry x) ≡ Some z = sym s.0 ∙ ap (λ i. seen e c i) id ∙ at in
+            let is : Some (node.Entry x) ≡ Some z = sym (put_seen d e c (Some p) x put) ∙ ap (λ i. seen e c i) id ∙ at in
             let same : node.Entry x ≡ z = cc in
             record {
               like = subst (λ v. IsLike (Some (entries (Over y l m))) v) same like;
-              hangs = ap (λ i. parent_after e c i) (sym id) ∙ s.1;
+              hangs = ap (λ i. parent_after e c i) (sym id) ∙ put_parent d e c (Some p) x put;
               above = there;
               hashes = λ q h holds. hashes q h (subst (λ v. Holds v q h) (sym same) holds);
             }),

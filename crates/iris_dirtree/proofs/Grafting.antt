@@ -25,10 +25,10 @@ use Rattle.iris_dirtree.specs.Grafts.{Fork, entry_name, around, over, low_over, 
 use Rattle.iris_dirtree.specs.Splits.{IsKnown, Halved, Touches, Grows}
 use Rattle.iris_dirtree.proofs.Sees.{Sees}
 use Rattle.iris_dirtree.proofs.Likes.{Placed, Roof, above_less, above_more, top_parent}
-use Rattle.iris_dirtree.proofs.Recounts.{never_none}
-use Rattle.iris_dirtree.proofs.Fitting.{seen_same}
 use Rattle.iris_dirtree.proofs.Halving.{no_snoc}
 use Rattle.iris_dirtree.proofs.Insertions.{Built}
+use Rattle.iris_dirtree.proofs.Owned.{seen_same}
+use Rattle.iris_dirtree.proofs.There.{never_none}
 
 -- ---- what a plan begins with
 

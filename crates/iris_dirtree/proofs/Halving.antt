@@ -19,7 +19,8 @@ use Rattle.iris_dirtree.specs.Nodes.{turned, LinksTo, IsPut}
 use Rattle.iris_dirtree.specs.Grafts.{Fork, entry_name, forked, around, over, low_over, high_over, split_over, InRows, Once, Fits, Leads, IsCrumb, AreCrumbs, Passes}
 use Rattle.iris_dirtree.specs.Splits.{IsKnown, IsSplitWay, Splits, Halved, Touches}
 use Rattle.iris_dirtree.proofs.Likes.{like_row}
-use Rattle.iris_dirtree.proofs.Fitting.{like_turned, turned_hashes, leads_to, fits_frame, fits_set, fits_around, once_around, few_around, put_other, put_either}
+use Rattle.iris_dirtree.proofs.Fitting.{like_turned, turned_hashes, leads_to, fits_frame, fits_set, fits_around, once_around, few_around, put_either}
+use Rattle.iris_dirtree.proofs.Owned.{put_other}
 
 pub snoc_same : {A : Type 0} (a b : List A) (x y : A) → a ++ x ∷ [] ≡ b ++ y ∷ [] → (a ≡ b) × (x ≡ y)
 snoc_same [] [] x y h = (refl, cc)

@@ -20,7 +20,7 @@ use Rattle.iris_cache.specs.Pictures.{Pictures, IsLike, Holds, BodyHolds, LinkHo
 use Rattle.iris_dirtree.specs.Rows.{IsRooted, IsRootName}
 use Rattle.iris_dirtree.specs.Grafts.{WasHash}
 use Rattle.iris_dirtree.specs.Nodes.{IsLinkIn}
-use Rattle.iris_dirtree.proofs.Recounts.{got}
+use Rattle.iris_dirtree.proofs.There.{got}
 
 entry_num : Name → ℕ
 entry_num (name.Entry id) = id.0

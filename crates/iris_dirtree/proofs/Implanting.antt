@@ -1,5 +1,5 @@
 -- What an insertion makes of the nodes of a directory's rows.
-use Rattle.std.proofs.Common.{◌≡◌, ◌⊎◌, ◌<◌, ◌^◌, inl, inr, ℕ, Bool, true, false, List, [], ◌∷◌, Option, Some, None, IsSome, refl, ap, sym, ◌∙◌, subst, arith}
+use Rattle.std.proofs.Common.{◌≡◌, ◌⊎◌, ◌<◌, ◌^◌, inl, inr, ℕ, Bool, true, false, List, [], Option, Some, None, IsSome, refl, ap, sym, ◌∙◌, subst, arith}
 use Rattle.iris_name.specs.Names.{same_name}
 use Rattle.iris_name.specs.NameLaws.{same_name-true}
 use Rattle.iris_name.specs.Hmac.{priority}
@@ -32,27 +32,16 @@ use Rattle.iris_dirtree.specs.Planted.{Planted, IsWithin, IsRowName, with_top, t
 use Rattle.iris_dirtree.specs.Nodes.{between, dir_top, LinksTo, IsPut, OnlyEntries}
 use Rattle.iris_dirtree.specs.Grafts.{Fork, entry_name, around, over, split_over, InRows, Once, WasHash, Fits, Leads, Passes, TopBelow, Reached}
 use Rattle.iris_dirtree.specs.Splits.{IsKnown, IsSplitWay, Splits, Halved, Growing, Grows}
-use Rattle.iris_dirtree.proofs.Sees.{Sees, sees_holding, some_node}
+use Rattle.iris_dirtree.proofs.Sees.{Sees, sees_holding, seen_resident}
 use Rattle.iris_dirtree.proofs.Likes.{Roof, roof, placed_rows}
-use Rattle.iris_dirtree.proofs.Recounts.{never_none}
-use Rattle.iris_dirtree.proofs.Fitting.{like_row_node, row_node_id, between_hashes, leads_to, seen_same, over_same, fits_frame, put_either, other_name, fits_set, fits_around, once_around, in_around, few_around}
+use Rattle.iris_dirtree.proofs.Fitting.{like_row_node, row_node_id, between_hashes, leads_to, fits_frame, put_either, fits_set, fits_around, once_around, in_around, few_around}
 use Rattle.iris_dirtree.proofs.Walks.{crumbs_there}
 use Rattle.iris_dirtree.proofs.Halving.{in_low, in_high, over_known}
 use Rattle.iris_dirtree.proofs.Insertions.{in_any, any_in, once_treap, put_fresh, put_has, put_row, put_none, put_is, insert_around, seated, top_beaten, Built, built_low, built_high, built_around, within_around, way_around, blocks_split, over_both, none_inside}
 use Rattle.iris_dirtree.proofs.Grafting.{fits_of, top_seen, leads_of, likes_fit, hang_fit, hash_fit, stays_fit, stays_seen, few_top, halves_of, Grown}
-
-each_map : {A : Type 0} (P Q : A → Type 0) (xs : List A) → ((x : A) → P x → Q x) → Each P xs → Each Q xs
-each_map P Q [] f h = tt
-each_map P Q (x ∷ xs) f h = (f x h.0, each_map P Q xs f h.1)
-
-entry_of_name : (o : Option Change) (w : Option Held) → IsSome (there_by (known_by o w)) → ((ch : Change) × (o ≡ Some ch)) ⊎ IsSome w
-entry_of_name (Some ch) w h = inl (ch, refl)
-entry_of_name None (Some v) h = inr refl
-entry_of_name None None h = absurd (never_none (there_by (known_by None None)) h refl)
-
--- a name that is seen is resident, or wasn't live before
-resident_seen : (old new : Shown) (d : Drafted) (c : Resident) (n : Name) → Sees old new d c → IsSome (seen d c n) → IsSome (held c n) ⊎ (old n ≡ None)
-resident_seen old new d c n see h = elim (entry_of_name (drafted d n) (held c n) h) [ inl r ↦ see.resident n r.0 r.1 | inr r ↦ inl r ]
+use Rattle.iris_dirtree.proofs.Downs.{each_map}
+use Rattle.iris_dirtree.proofs.Owned.{seen_same, parent_same, other_name}
+use Rattle.iris_dirtree.proofs.There.{never_none, is_there}
 
 hand_by : (old new : Shown) (d : Drafted) (c : Resident) (i : FileId) (o : Option Change) (w : Option Held) → Sees old new d c → new (name.Entry i) ≡ None → drafted d (name.Entry i) ≡ o → held c (name.Entry i) ≡ w → IsSome (held c (name.Entry i)) ⊎ (old (name.Entry i) ≡ None)
 hand_by old new d c i (Some ch) w see out de he = see.resident (name.Entry i) ch de
@@ -209,7 +198,7 @@ module _ (key : List ℕ) (dir : FileId) (x : Row) (made_node : EntryFields) (d 
     -- ---- the draft in the end
 
     pub there_root : (top : Option Link) → dir_top (seen d c root) ≡ Some top → IsSome (seen d c root)
-    there_root top h = let ts = top_seen (seen d c root) top h in some_node (seen d c root) (node.Entry ts.entry) ts.is
+    there_root top h = let ts = top_seen (seen d c root) top h in is_there (seen d c root) (node.Entry ts.entry) ts.is
 
     dir_not_was : InRows root t → ⊥
     dir_not_was h = let r = roof new key dir xs all.listed.rows_are in none_inside new root r.entry t r.live r.above (placed_rows new key dir xs all.listed.is all.listed.rows_are) h
@@ -275,7 +264,7 @@ module _ (key : List ℕ) (dir : FileId) (x : Row) (made_node : EntryFields) (d 
       fits_end = fits_frame old c known_last d3 e root u (λ q j. off_dir q (λ s. dir_not_now (subst (λ v. InRows v u) s j))) grown.fits
 
       entry_is : (y : EntryFields) → seen d c root ≡ Some (node.Entry y) → drafted e root ≡ Some (set_to (parent_after d c root) (node.Entry (with_top (Some link) y)))
-      entry_is y h = set y (seen_same d d3 c root dir_same ∙ h) ∙ ap (λ p. Some (set_to p (node.Entry (with_top (Some link) y)))) (over_same d d3 c root dir_same)
+      entry_is y h = set y (seen_same d d3 c root dir_same ∙ h) ∙ ap (λ p. Some (set_to p (node.Entry (with_top (Some link) y)))) (parent_same d d3 c root dir_same)
 
       top_hash : (y : EntryFields) (b : Body) (old_top : Option Link) (m : Name) (h : Hash32) → b ≡ Dir old_top → BodyHolds y.id (topped (Some link) b) m h → WasHash old c m h
       top_hash y (Dir k) old_top m h is holds = grown.leads.hash m h holds
@@ -315,8 +304,8 @@ module _ (key : List ℕ) (dir : FileId) (x : Row) (made_node : EntryFields) (d 
         went = λ q a out. absurd (out (now_rows q (put_has (before x.name) x xs q (rows_was q a))));
         resident = λ q ch h. elim (touched q) [
           | inl s ↦ see.resident q ch (sym s ∙ h)
-          | inr (inl s) ↦ resident_seen old new d c q see (subst (λ v. IsSome (seen d c v)) (sym s) (there_root top top_is))
-          | inr (inr (inl s)) ↦ resident_seen old new d c q see s.0
+          | inr (inl s) ↦ seen_resident old new d c q see (subst (λ v. IsSome (seen d c v)) (sym s) (there_root top top_is))
+          | inr (inr (inl s)) ↦ seen_resident old new d c q see s.0
           | inr (inr (inr s)) ↦ (let P : Name → Type 0 = λ v. IsSome (held c v) ⊎ (old v ≡ None) in subst P (sym s) (hand_resident old new d c made_node.id see (ap new named_id ∙ all.listed.hand.out)))
         ];
       }

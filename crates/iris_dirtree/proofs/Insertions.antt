@@ -12,29 +12,16 @@ use Rattle.iris_shape.specs.Treap.{Treap, Empty, Over, treap, rows, low, high, i
 use Rattle.iris_shape.proofs.Treaps.{rows_treap}
 use Rattle.iris_shape.proofs.LawProofs.{treap_put, priorities_rank, names_part}
 use Rattle.iris_dirtree.specs.Rows.{Row, Content, Directory, File, row_id, row_name, row_entry, entry_of, entries, up}
-use Rattle.iris_dirtree.specs.Ways.{Any, before}
+use Rattle.iris_dirtree.specs.Ways.{before}
 use Rattle.iris_dirtree.specs.Planted.{IsRowName, IsWithin}
 use Rattle.iris_dirtree.specs.Grafts.{Fork, entry_name, forked, around, InRows, Once, TopBelow}
 use Rattle.iris_dirtree.proofs.Likes.{Placed, above_less, above_more}
 use Rattle.iris_dirtree.specs.Reached.{size}
 use Rattle.iris_dirtree.proofs.Sizes.{above_larger}
 use Rattle.iris_dirtree.proofs.HeldHashes.{num_of}
+use Rattle.iris_dirtree.proofs.Downs.{any_left, any_right, any_split}
 
 -- ---- lists of rows
-
-any_left : {A : Type 0} (P : A → Type 0) (a b : List A) → Any P a → Any P (a ++ b)
-any_left P [] b h = absurd h
-any_left P (y ∷ a) b (inl h) = inl h
-any_left P (y ∷ a) b (inr h) = inr (any_left P a b h)
-
-any_right : {A : Type 0} (P : A → Type 0) (a b : List A) → Any P b → Any P (a ++ b)
-any_right P [] b h = h
-any_right P (y ∷ a) b h = inr (any_right P a b h)
-
-any_split : {A : Type 0} (P : A → Type 0) (a b : List A) → Any P (a ++ b) → Any P a ⊎ Any P b
-any_split P [] b h = inr h
-any_split P (y ∷ a) b (inl h) = inl (inl h)
-any_split P (y ∷ a) b (inr h) = elim (any_split P a b h) [ inl k ↦ inl (inr k) | inr k ↦ inr k ]
 
 pub each_parts : {A : Type 0} (P : A → Type 0) (a : List A) (y : A) (b : List A) → Each P (a ++ y ∷ b) → Each P a × P y × Each P b
 each_parts P [] y b h = (tt, h.0, h.1)

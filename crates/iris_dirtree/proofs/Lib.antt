@@ -1,3 +1,4 @@
+pub mod There
 pub mod Owned
 pub mod Sees
 pub mod Likes

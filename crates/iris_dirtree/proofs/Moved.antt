@@ -95,10 +95,10 @@ without_in e (y ∷ ys) a h f = by (λ k. without_in e ys a k f) (e y) refl h
 pub named_self : (x : Row) → is_named x.name x ≡ true
 named_self x = ap (λ b. not b && not (less_name x.name x.name)) (less_not x.name) ∙ ap (λ b. not b) (less_not x.name)
 
-not-before : (a b : Bool) → (not a && not b) ≡ true → (a ≡ false) × (b ≡ false)
-not-before true b h = absurd (true≢false (sym h))
-not-before false true h = absurd (true≢false (sym h))
-not-before false false h = (refl, refl)
+pub not_before : (a b : Bool) → (not a && not b) ≡ true → (a ≡ false) × (b ≡ false)
+not_before true b h = absurd (true≢false (sym h))
+not_before false true h = absurd (true≢false (sym h))
+not_before false false h = (refl, refl)
 
 -- rows of a directory with one name are one row
 pub named_same : (xs : List Row) (a b : Row) → Rising row_name xs → IsIn a xs → IsIn b xs → is_named a.name b ≡ true → a ≡ b
@@ -106,8 +106,8 @@ named_same [] a b r h k n = absurd h
 named_same (x ∷ xs) a b r (inl h) (inl k) n = sym h ∙ k
 named_same (x ∷ xs) a b r (inl h) (inr k) n =
     let lt : less_name x.name b.name ≡ true = each_in (λ y. less_name x.name y.name ≡ true) xs b k r.0 in
-    absurd (true≢false (sym lt ∙ ap (λ (y : Row). less_name y.name b.name) h ∙ (not-before (less_name b.name a.name) (less_name a.name b.name) n).1))
+    absurd (true≢false (sym lt ∙ ap (λ (y : Row). less_name y.name b.name) h ∙ (not_before (less_name b.name a.name) (less_name a.name b.name) n).1))
 named_same (x ∷ xs) a b r (inr h) (inl k) n =
     let lt : less_name x.name a.name ≡ true = each_in (λ y. less_name x.name y.name ≡ true) xs a h r.0 in
-    absurd (true≢false (sym lt ∙ ap (λ (y : Row). less_name y.name a.name) k ∙ (not-before (less_name b.name a.name) (less_name a.name b.name) n).0))
+    absurd (true≢false (sym lt ∙ ap (λ (y : Row). less_name y.name a.name) k ∙ (not_before (less_name b.name a.name) (less_name a.name b.name) n).0))
 named_same (x ∷ xs) a b r (inr h) (inr k) n = named_same xs a b r.1 h k n

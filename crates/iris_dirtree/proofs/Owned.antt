@@ -1,9 +1,9 @@
 -- A node that is seen stands under its own name.
-use Rattle.std.proofs.Common.{◌≡◌, false, cond, Option, Some, None, refl, ap, sym, ◌∙◌}
+use Rattle.std.proofs.Common.{◌≡◌, Bool, true, false, cond, Option, Some, None, IsSome, refl, ap, sym, ◌∙◌, subst}
 use Rattle.iris_name.specs.Names.{same_name}
-use Rattle.iris_name.specs.NameLaws.{same_name-refl}
+use Rattle.iris_name.specs.NameLaws.{same_name-true, same_name-refl}
 use Rattle.iris_node.specs.declared.node.Link.{Link}
-use Rattle.iris_cache.specs.Pictures.{parent_after}
+use Rattle.iris_cache.specs.Pictures.{parent_after, parent_by}
 pub use Rattle.iris_dirtree.specs.Nodes.{IsPut}
 use Rattle.iris_dirtree.specs.Planted.{with_top}
 use Rattle.iris_name.specs.declared.name.FileId.{FileId}
@@ -17,6 +17,7 @@ use Rattle.iris_cache.specs.declared.held.Held.{Held}
 use Rattle.iris_cache.specs.declared.draft.Change.{Change}
 use Rattle.iris_cache.specs.Resident.{Resident, held, IsSound}
 use Rattle.iris_cache.specs.Drafted.{Drafted, drafted, seen, known_by, there_by, set_to, IsDraft}
+use Rattle.iris_dirtree.proofs.There.{is_there}
 
 own_by : (d : Drafted) (c : Resident) (n : Name) (k : Node) (o : Option Change) (w : Option Held) → IsDraft d → IsSound c → drafted d n ≡ o → held c n ≡ w → there_by (known_by o w) ≡ Some k → name_of k ≡ n
 own_by d c n k (Some x) w ds cs de he e = ds.own n x k de e
@@ -40,6 +41,34 @@ put_at d e p x set = set (name.Entry x.id) ∙ ap (λ b. cond b (Some (set_to p 
 
 pub put_off : (d e : Drafted) (p : Option Name) (x : EntryFields) (n : Name) → IsPut d e p x → same_name (name.Entry x.id) n ≡ false → drafted e n ≡ drafted d n
 put_off d e p x n set off = set n ∙ ap (λ b. cond b (Some (set_to p (node.Entry x))) (drafted d n)) off
+
+pub seen_same : (d e : Drafted) (c : Resident) (n : Name) → drafted e n ≡ drafted d n → seen e c n ≡ seen d c n
+seen_same d e c n h = ap (λ o. there_by (known_by o (held c n))) h
+
+pub parent_same : (d e : Drafted) (c : Resident) (n : Name) → drafted e n ≡ drafted d n → parent_after e c n ≡ parent_after d c n
+parent_same d e c n h = ap (λ o. parent_by o (held c n)) h
+
+-- what was seen is seen once one name is
+pub still_seen : (d e : Drafted) (c : Resident) (p : Name) (w : Node) → seen e c p ≡ Some w → ((n : Name) → same_name p n ≡ false → drafted e n ≡ drafted d n) → (n : Name) → IsSome (seen d c n) → IsSome (seen e c n)
+still_seen d e c p w now off n s = by (same_name p n) refl
+  where
+    by : (b : Bool) → same_name p n ≡ b → IsSome (seen e c n)
+    by true b = subst (λ m. IsSome (seen e c m)) (same_name-true p n b) (is_there (seen e c p) w now)
+    by false b = subst IsSome (sym (seen_same d e c n (off n b))) s
+
+pub put_seen : (d e : Drafted) (c : Resident) (p : Option Name) (x : EntryFields) → IsPut d e p x → seen e c (name.Entry x.id) ≡ Some (node.Entry x)
+put_seen d e c p x put = ap (λ o. there_by (known_by o (held c (name.Entry x.id)))) (put_at d e p x put)
+
+pub put_parent : (d e : Drafted) (c : Resident) (p : Option Name) (x : EntryFields) → IsPut d e p x → parent_after e c (name.Entry x.id) ≡ p
+put_parent d e c p x put = ap (λ o. parent_by o (held c (name.Entry x.id))) (put_at d e p x put)
+
+pub other_name : (n q : Name) (b : Bool) → same_name n q ≡ b → (q ≡ n → ⊥) → same_name n q ≡ false
+other_name n q true e off = absurd (off (sym (same_name-true n q e)))
+other_name n q false e off = e
+
+-- another name stays
+pub put_other : (d e : Drafted) (p : Option Name) (x : EntryFields) (q : Name) → IsPut d e p x → (q ≡ name.Entry x.id → ⊥) → drafted e q ≡ drafted d q
+put_other d e p x q put off = put_off d e p x q put (other_name (name.Entry x.id) q (same_name (name.Entry x.id) q) refl off)
 
 pub put_top : (d e : Drafted) (c : Resident) (dir : FileId) (top : Option Link) (x y z w : EntryFields) (p : Option Name) → x.id ≡ dir → seen d c (name.Entry dir) ≡ Some (node.Entry x) → seen d c (name.Entry dir) ≡ Some (node.Entry y)
     → z ≡ x → w ≡ with_top top z → p ≡ parent_after d c (name.Entry dir) → IsPut d e p w → drafted e (name.Entry dir) ≡ Some (set_to (parent_after d c (name.Entry dir)) (node.Entry (with_top top y)))

@@ -35,7 +35,7 @@ use Rattle.iris_dirtree.specs.Found.{entry_in}
 use Rattle.iris_dirtree.specs.declared.placing.Turn.TheVariants.{Own, Under}
 use Rattle.iris_dirtree.proofs.Sees.{Sees, sees_drafts, root_wanted}
 use Rattle.iris_dirtree.proofs.Pasts.{past_bound}
-use Rattle.iris_dirtree.proofs.Stands.{way_down, is_entry, root_name, led_named}
+use Rattle.iris_dirtree.proofs.Stands.{way_down, is_entry, root_name, led_named, no_entry_by}
 use Rattle.iris_dirtree.proofs.Blocks.{turned, turned_own, walk_none, like_blocks, get_left, get_right, is_less, is_not_less}
 
 -- how far the way down to a block has come: the block lies at a place of the walk under a link
@@ -55,12 +55,6 @@ part_apart (Split f l i low high) id p named h = cc
 part_apart Absent id p named h = cc
 part_apart (Even v) id p named h = cc
 part_apart (Stored v bytes) id p named h = cc
-
-not_seen_by : (id : FileId) (t : Option Unfolded) (u : Unfolded) (o : Option (Option Node)) → t ≡ Some u → IsSome o → None ≡ entry_in (there_by o) → (o ≡ Some None → t ≡ None) → ((p : PartFields) → there_by o ≡ Some (node.Part p) → ⊥) → ⊥
-not_seen_by id t u None live some none gone part = let e : false ≡ true = some in cc
-not_seen_by id t u (Some None) live some none gone part = let e = gone refl in cc
-not_seen_by id t u (Some (Some (node.Part p))) live some none gone part = part p refl
-not_seen_by id t u (Some (Some (node.Entry e))) live some none gone part = cc
 
 down_head : (w : Unfolded) (l : Link) (rest : ℕ) → led_by (Some l) ≡ led w → node_name w ≡ Some (name.Entry l.id) → Any (λ i. name.Entry l.id ≡ name.Entry (id_of i)) (down_to rest w)
 down_head (Folder id label less more inside) l rest h named = inl (let e : name.Entry (id_of id) ≡ name.Entry l.id = cc in sym e)
@@ -92,7 +86,7 @@ module _ (root : FileId) (d : Drafted) (c : Resident) (old new : Shown) (top : U
   pub not_seen : (id : FileId) (u : Unfolded) → new (name.Entry id) ≡ Some u → IsSome (known d c (name.Entry id)) → None ≡ entry_in (seen d c (name.Entry id)) → ⊥
   not_seen id u live some none =
       let n = name.Entry id in
-      not_seen_by id (new n) u (known d c n) live some none (see.gone n tt)
+      no_entry_by (new n) u (known d c n) live some none (see.gone n tt)
       (λ p at. let h = subst (λ o. IsLike o (node.Part p)) live (see.nodes n (node.Part p) at) in part_apart u id p (live-name new n u (local_of (node.Part p)) see.is live h) h)
 
   module _ (at : ℕ) (l : Link) (place k : ℕ) (s : Sunk root old new d c top at l place k) where

@@ -32,12 +32,14 @@ use Rattle.iris_dirtree.specs.Rows.{Row, Content, Directory, File, HasRows, IsCo
 use Rattle.iris_dirtree.specs.Steps.{entry_name, WasHash, Leads, Seated, Outside, Rising}
 use Rattle.iris_dirtree.specs.Ways.{Any, is_named}
 use Rattle.iris_dirtree.proofs.Begins.{Holder, dir_apart}
-use Rattle.iris_dirtree.proofs.Climbs.{seen_same, parent_same, is_there, there_same, seated_same}
+use Rattle.iris_dirtree.proofs.Climbs.{there_same, seated_same}
 use Rattle.iris_dirtree.proofs.Likes.{like_row, roof}
 use Rattle.iris_dirtree.proofs.Plants.{risen, likes_from, hang_from, stays_from, hashes_from}
 use Rattle.iris_dirtree.proofs.Rowed.{row_any}
-use Rattle.iris_dirtree.proofs.Sees.{Sees, sees_drafts}
+use Rattle.iris_dirtree.proofs.Sees.{Sees, sees_drafts, seen_resident}
 use Rattle.iris_dirtree.proofs.Withouts.{among_each, gone_one, only, any_without, apart_without, is_it, named_parts, outside_none, outside_not, any_named}
+use Rattle.iris_dirtree.proofs.Owned.{seen_same, parent_same}
+use Rattle.iris_dirtree.proofs.There.{is_there}
 
 -- ---- one name changed
 
@@ -71,21 +73,6 @@ only_stays d e c m h there = by (h m)
     by : (drafted e m ≡ drafted d m) ⊎ ((id : FileId) × (x : EntryFields) × (p : Option Name) × (m ≡ name.Entry id) × (drafted e m ≡ Some (set_to p (node.Entry x)))) → IsSome (seen e c m)
     by (inl s) = there_same (seen e c m) (seen d c m) (seen_same d e c m s) there
     by (inr g) = is_there (seen e c m) (node.Entry g.1) (ap (λ o. there_by (known_by o (held c m))) g.4)
-
--- a name that is seen is resident, or wasn't live before
-pub seen_resident : (old new : Shown) (d : Drafted) (c : Resident) (n : Name) → Sees old new d c → IsSome (seen d c n) → IsSome (held c n) ⊎ (old n ≡ None)
-seen_resident old new d c n see h = by (drafted d n) (held c n) refl refl h
-  where
-    nothing : IsSome {T = Node} None → ⊥
-    nothing h = cc
-
-    held_there : (o : Option Held) (x : Held) → o ≡ Some x → IsSome o
-    held_there o x e = let P : Option Held → Type 0 = λ o. IsSome o in subst P (sym e) refl
-
-    by : (o : Option Change) (w : Option Held) → drafted d n ≡ o → held c n ≡ w → IsSome (there_by (known_by o w)) → IsSome (held c n) ⊎ (old n ≡ None)
-    by (Some v) w de he k = see.resident n v de
-    by None (Some w) de he k = inl (held_there (held c n) w he)
-    by None None de he k = absurd (nothing k)
 
 -- ---- a row's node by itself
 

@@ -24,10 +24,12 @@ use Rattle.iris_dirtree.specs.Nodes.{IsPut}
 use Rattle.iris_dirtree.specs.Planted.{IsRowName, Likes, Hang, Stays}
 use Rattle.iris_dirtree.specs.Rows.{Row, entries, row_entry}
 use Rattle.iris_dirtree.specs.Steps.{Step, under, entry_name, above, crumb_above, WasHash, Seat, Seated, Leads, AreCrumbs, Outside, Once, Rising}
-use Rattle.iris_dirtree.proofs.Climbs.{put_apart, put_seen, put_parent, put_stays, is_there, seated_same, crumbs_above, above_seen}
+use Rattle.iris_dirtree.proofs.Climbs.{put_stays, seated_same, crumbs_above, above_seen}
 use Rattle.iris_dirtree.proofs.Likes.{like_row, like_part, leads_over, leads_empty}
 use Rattle.iris_dirtree.proofs.Steps.{once_under}
-use Rattle.iris_dirtree.proofs.Withouts.{any_split}
+use Rattle.iris_dirtree.proofs.Downs.{any_split}
+use Rattle.iris_dirtree.proofs.Owned.{put_other, put_seen, put_parent}
+use Rattle.iris_dirtree.proofs.There.{is_there}
 
 -- ---- what is left at the end moves as a whole
 
@@ -55,7 +57,7 @@ module _ (old : Shown) (c : Resident) (t : Treap Row) where
       let sees : seen e c n ≡ Some (node.Entry x) = ap (seen e c) (sym id) ∙ put_seen d e c a x put in
       let hangs : parent_after e c n ≡ Some (above p front) = ap (parent_after e c) (sym id) ∙ put_parent d e c a x put ∙ ap Some top in
       let stays : (m : Name) → IsSome (seen d c m) → IsSome (seen e c m) = λ m h. put_stays d e c a x m put h in
-      let off : (m : Name) → m ≢ n → drafted e m ≡ drafted d m = λ m o. put_apart d e a x m put (λ h. o (h ∙ id)) in
+      let off : (m : Name) → m ≢ n → drafted e m ≡ drafted d m = λ m o. put_other d e a x m put (λ h. o (h ∙ id)) in
       let apart = once_under front (Over y l m) (subst Once is once) in
       let here : IsSome (seen e c n) = is_there (seen e c n) (node.Entry x) sees in
       let E : (w : Treap Row) → Outside n w → Every (λ z. drafted e (entry_name z) ≡ drafted d (entry_name z)) w = λ w o. every_map (λ z. n ≢ entry_name z) (λ z. drafted e (entry_name z) ≡ drafted d (entry_name z)) w (λ z k. off (entry_name z) (λ h. k (sym h))) o in

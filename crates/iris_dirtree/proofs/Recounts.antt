@@ -28,21 +28,10 @@ use Rattle.iris_dirtree.specs.Lags.{Lags, IsUpFrom}
 use Rattle.iris_dirtree.specs.Planted.{IsOver, next, far}
 use Rattle.iris_dirtree.specs.Rows.{Row, IsCountable}
 use Rattle.iris_dirtree.proofs.Sizes.{never_over, none_over, over_parent}
+use Rattle.iris_dirtree.proofs.There.{got, is_there, never_none, one_of}
+use Rattle.iris_dirtree.proofs.Owned.{still_seen}
 
 -- ---- what is there
-
-pub got : {A : Type 0} → (o : Option A) → IsSome o → (x : A) × (o ≡ Some x)
-got None h = absurd (true≢false (sym h))
-got (Some x) h = (x, refl)
-
-pub is_there : {A : Type 0} → (o : Option A) → (x : A) → o ≡ Some x → IsSome o
-is_there o x e = ap is_some e
-
-pub never_none : {A : Type 0} → (o : Option A) → IsSome o → o ≡ None → ⊥
-never_none o s e = true≢false (sym s ∙ ap is_some e)
-
-pub one_of : {A : Type 0} → (a b : A) → Some a ≡ Some b → a ≡ b
-one_of a b e = ap (λ (o : Option _). option_unwrap_or o a) e
 
 pub like_said : (o : Option Unfolded) (k : Node) → IsLike o k → said o ≡ Some (local_of k)
 like_said None k h = absurd h
@@ -203,12 +192,8 @@ module _ (old new made : Shown) (hand : Option Row) (at p : Name) (d e : Drafted
   from : (n : Name) (k : Node) → seen e c n ≡ Some k → From n k
   from n k s = from-by n k (same_name p n) refl s
 
-  stays-by : (n : Name) (b : Bool) → same_name p n ≡ b → IsSome (seen d c n) → IsSome (seen e c n)
-  stays-by n true b s = subst (λ m. IsSome (seen e c m)) (same_name-true p n b) (is_there (seen e c p) (counted_node at count was.0) now)
-  stays-by n false b s = subst IsSome (sym (seen-other n b)) s
-
   stays : (n : Name) → IsSome (seen d c n) → IsSome (seen e c n)
-  stays n s = stays-by n (same_name p n) refl s
+  stays = still_seen _ _ c p (counted_node at count was.0) now step.others
 
   likes-by : (n : Name) (k : Node) → (IsOver made n p → ⊥) → From n k → IsLike (made n) k
   likes-by n k free f = elim f.same [

@@ -13,8 +13,8 @@ use Rattle.iris_dirtree.specs.Counts.{count_of, counted, counted_lead}
 use Rattle.iris_dirtree.specs.Lags.{IsUpFrom}
 use Rattle.iris_dirtree.specs.Planted.{IsOver, next, far}
 use Rattle.iris_dirtree.specs.Rows.{refilled}
-use Rattle.iris_dirtree.proofs.Recounts.{one_of}
 use Rattle.iris_dirtree.proofs.Sizes.{never_over, over_parent, over_lined}
+use Rattle.iris_dirtree.proofs.There.{one_of}
 
 -- whether the directory of an id lies at or below
 abbrev pub lies : ℕ → Unfolded → Bool

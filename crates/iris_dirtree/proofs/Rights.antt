@@ -20,9 +20,10 @@ use Rattle.iris_dirtree.specs.Hands.{Holding}
 use Rattle.iris_dirtree.specs.Lags.{Lags, IsUpFrom}
 use Rattle.iris_dirtree.specs.Planted.{IsOver, next, far}
 use Rattle.iris_dirtree.specs.Rows.{Row, IsCountable}
-use Rattle.iris_dirtree.proofs.Recounts.{got, is_there, one_of, like_said, said_like, said_counted, over_top, out_none, climbed, parent_made, right_said}
+use Rattle.iris_dirtree.proofs.Recounts.{like_said, said_like, said_counted, over_top, out_none, climbed, parent_made, right_said}
 use Rattle.iris_dirtree.proofs.CountsUp.{Climbing, or-split, step-up, at-parent}
 use Rattle.iris_dirtree.proofs.Sizes.{never_over, over_parent}
+use Rattle.iris_dirtree.proofs.There.{got, is_there, one_of}
 
 -- ---- counts of a tree are right in it
 

@@ -13,8 +13,8 @@ use Rattle.iris_dirtree.specs.Planted.{Likes, Hang, IsWithin, Stays, IsOver, nex
 use Rattle.iris_dirtree.specs.Rows.{Row, Content, Directory, File, row_entry, entry_of, entries, below_row, has_id}
 use Rattle.iris_dirtree.specs.Ways.{Any}
 use Rattle.iris_dirtree.proofs.Likes.{Placed, entry_named, above_less, above_more, top_parent}
-use Rattle.iris_dirtree.proofs.Recounts.{one_of}
 use Rattle.iris_dirtree.proofs.Sizes.{over_through}
+use Rattle.iris_dirtree.proofs.There.{one_of}
 
 -- ---- lists
 

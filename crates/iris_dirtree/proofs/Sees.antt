@@ -10,13 +10,14 @@ use Rattle.iris_node.specs.Trees.{Shown, IsTree, IsParent, IsNodeName}
 use Rattle.iris_cache.specs.declared.held.Held.{Held}
 use Rattle.iris_cache.specs.declared.draft.Change.{Change}
 use Rattle.iris_cache.specs.Resident.{Resident, held}
-use Rattle.iris_cache.specs.Drafted.{Drafted, drafted, seen, known, known_by}
+use Rattle.iris_cache.specs.Drafted.{Drafted, drafted, seen, known, known_by, there_by}
 use Rattle.iris_cache.specs.Needs.{IsExpected}
 use Rattle.iris_cache.specs.Pictures.{Pictures, Drafts, IsLike, IsSettled, IsHashOf, Holds, parent_after}
 use Rattle.iris_cache.proofs.Lacking.{unknown, parent_named, child_named, not_live, not_known}
 use Rattle.iris_dirtree.specs.Rows.{Row, IsRootName}
 use Rattle.iris_dirtree.specs.Hands.{Holding}
 use Rattle.iris_dirtree.specs.Needs.{IsWanted}
+use Rattle.iris_dirtree.proofs.There.{is_there, never_none}
 
 -- what `Drafts` and `Holding` share, of two trees
 pub record Sees (old new : Shown) (d : Drafted) (c : Resident) : Type 0 where
@@ -37,12 +38,6 @@ sees_drafts old new d c was is p =
 pub sees_holding : (old new : Shown) (hand : Option Row) (d : Drafted) (c : Resident) → IsTree old → IsTree new → Holding old new hand d c → Sees old new d c
 sees_holding old new hand d c was is p =
     record { was = was; is = is; before = p.before; nodes = p.nodes; hashes = p.hashes; parents = p.parents; gone = p.gone; away = p.away; resident = p.resident }
-
-pub some_node : (o : Option Node) (x : Node) → o ≡ Some x → IsSome o
-some_node o x e = let P : Option Node → Type 0 = λ o. IsSome o in subst P (sym e) refl
-
-pub some_shown : (o : Option Unfolded) (x : Unfolded) → o ≡ Some x → IsSome o
-some_shown o x e = let P : Option Unfolded → Type 0 = λ o. IsSome o in subst P (sym e) refl
 
 pub expected_by : (o : Option Unfolded) (h : Hash32) → IsSome o → IsHashOf o h → IsExpected (Hash h) o
 expected_by None h live is = absurd (let e : false ≡ true = live in cc)
@@ -72,22 +67,31 @@ module _ (old new : Shown) (d : Drafted) (c : Resident) (see : Sees old new d c)
   wanted p n node x sees holds parent missing =
       let same = see.away n (child_named new p n parent) missing in
       let now = see.is.below p n parent.parent parent.child parent.live parent.above parent.named in
-      let lived : IsSome (old n) = some_shown (old n) parent.child (sym same ∙ now) in
+      let lived : IsSome (old n) = is_there (old n) parent.child (sym same ∙ now) in
       let absent = (unknown d c n missing).1 in
       let P : Option Held → Type 0 = λ o. IsSettled o in
       record {
-        live = some_shown (new n) parent.child now;
+        live = is_there (new n) parent.child now;
         lived = lived;
         expected = inr (expected_by (old n) x lived (see.hashes p n node x sees holds (subst P (sym absent) tt)));
-        parent = inr (λ q before. parent_resident n p q parent (some_node (seen d c p) node sees) before);
+        parent = inr (λ q before. parent_resident n p q parent (is_there (seen d c p) node sees) before);
       }
 
   -- the missing entry of a root is wanted with any hash
   pub root_wanted : (n : Name) (u : Unfolded) (x : Expect) → IsRootName n → IsNodeName n → new n ≡ Some u → known d c n ≡ None → IsWanted old new c n x
   root_wanted n u x root named now missing =
       record {
-        live = some_shown (new n) u now;
-        lived = some_shown (old n) u (sym (see.away n named missing) ∙ now);
+        live = is_there (new n) u now;
+        lived = is_there (old n) u (sym (see.away n named missing) ∙ now);
         expected = inl root;
         parent = inl root;
       }
+
+-- a name that is seen is resident, or wasn't live before
+pub seen_resident : (old new : Shown) (d : Drafted) (c : Resident) (n : Name) → Sees old new d c → IsSome (seen d c n) → IsSome (held c n) ⊎ (old n ≡ None)
+seen_resident old new d c n see h = by (drafted d n) (held c n) refl refl h
+  where
+    by : (o : Option Change) (w : Option Held) → drafted d n ≡ o → held c n ≡ w → IsSome (there_by (known_by o w)) → IsSome (held c n) ⊎ (old n ≡ None)
+    by (Some v) w de he k = see.resident n v de
+    by None (Some w) de he k = inl (is_there (held c n) w he)
+    by None None de he k = absurd (never_none (there_by (known_by None None)) k refl)

@@ -24,10 +24,11 @@ use Rattle.iris_dirtree.specs.Needs.{ListedInHand, IsShort, IsWanted, IsMet}
 use Rattle.iris_dirtree.specs.Nodes.{dir_top}
 use Rattle.iris_dirtree.specs.Grafts.{Fork, entry_name, forked, around, over, Fits, Leads, Passes, Reached}
 use Rattle.iris_dirtree.specs.Splits.{Lacking, IsWayShort}
-use Rattle.iris_dirtree.proofs.Sees.{sees_holding, some_node, some_shown, expected_by, parent_resident}
+use Rattle.iris_dirtree.proofs.Sees.{sees_holding, expected_by, parent_resident}
 use Rattle.iris_dirtree.proofs.Likes.{Placed, roof, placed_rows, above_less, above_more, top_parent}
 use Rattle.iris_dirtree.proofs.Grafting.{fits_of, top_seen, leads_of}
 use Rattle.iris_dirtree.proofs.Walks.{lacking_below}
+use Rattle.iris_dirtree.proofs.There.{is_there}
 
 along_by : (P : Row → Type 0) (n : List ℕ) (row : Row) (other t : Treap Row) (b : Bool) → b ≡ before n row → is_named n row ≡ false → Any P (along (before n) (is_named n) t) → Any P (along (before n) (is_named n) (cond b (Over row other t) (Over row t other)))
 along_by P n row other t true e f h =
@@ -75,16 +76,16 @@ module _ (key : List ℕ) (n : List ℕ) (dir : FileId) (x : Row) (d : Drafted) 
       let up_name = over root lack.forks in
       let parent = parent_around new root r.entry lack.forks y lack.less lack.more r.live above placed in
       let parent_q = subst (IsParent new up_name) (sym lack.lacks) parent in
-      let there = seen_over d c root lack.forks (some_node (seen d c root) (node.Entry ts.entry) ts.is) lack.there in
+      let there = seen_over d c root lack.forks (is_there (seen d c root) (node.Entry ts.entry) ts.is) lack.there in
       let P : Row → Type 0 = λ v. q ≡ name.Entry (id_of v.id) in
       let named = subst (λ m. m) (ap (λ m. q ≡ m) refl) lack.lacks in
       let is_name : (m : Name) → m ≡ entry_name y → known d c m ≡ None → new m ≡ old m = λ m e k. see.away m (subst NodeName (sym e) tt) k in
-      let lived = some_shown (old q) (row_entry y (entries lack.less) (entries lack.more)) (sym (is_name q lack.lacks missing) ∙ now) in
+      let lived = is_there (old q) (row_entry y (entries lack.less) (entries lack.more)) (sym (is_name q lack.lacks missing) ∙ now) in
       let absent = (unknown d c q missing).1 in
       let S : Option Held → Type 0 = λ o. IsSettled o in (
         inr (subst (λ v. Any P (along (before n) (is_named n) v)) lack.is (along_around P n lack.forks (Over y lack.less lack.more) lack.passed (inl lack.lacks))),
         record {
-          live = some_shown (new q) (row_entry y (entries lack.less) (entries lack.more)) now;
+          live = is_there (new q) (row_entry y (entries lack.less) (entries lack.more)) now;
           lived = lived;
           expected = inr (expected_by (old q) h lived (lack.hash (subst S (sym absent) tt)));
           parent = inr (λ p before. parent_resident old new d c see q up_name p parent_q there before);

@@ -27,9 +27,10 @@ use Rattle.iris_dirtree.specs.Ways.{Any}
 use Rattle.iris_dirtree.specs.Needs.{IsWanted, IsDirectory, IsDirNode, IsLack, Lacks, Listed}
 use Rattle.iris_dirtree.specs.Found.{entry_in, inside, body_inside}
 use Rattle.iris_dirtree.specs.Reached.{size, Past, Way}
-use Rattle.iris_dirtree.proofs.Sees.{Sees, sees_drafts, wanted, root_wanted, some_node}
+use Rattle.iris_dirtree.proofs.Sees.{Sees, sees_drafts, wanted, root_wanted}
 use Rattle.iris_dirtree.proofs.Likes.{roof, LikeRow, like_row, like_part, leads_over, lead_id, above_less, above_more}
 use Rattle.iris_dirtree.proofs.Pasts.{past_more}
+use Rattle.iris_dirtree.proofs.There.{is_there}
 
 lead_named : (i : ℕ) (l : Link) (b : ℕ) → led_by (Some l) ≡ Some (record { id = i; blocks = b }) → Some (name.Entry (id_of i)) ≡ Some (name.Entry l.id)
 lead_named i l b h = let e : l.id.0 ≡ i = ap (λ o. lead_id o 0) h in ap (λ i. Some (name.Entry (id_of i))) (sym e)
@@ -60,7 +61,7 @@ body_holds id (Dir top) l e = link_holds top l e
 body_holds id (FileBody size counter versions) l e = cc
 
 -- an entry that is live and known is seen
-no_entry_by : (t : Option Unfolded) (u : Unfolded) (o : Option (Option Node)) → t ≡ Some u → IsSome o → None ≡ entry_in (there_by o) → (o ≡ Some None → t ≡ None) → ((p : PartFields) → there_by o ≡ Some (node.Part p) → ⊥) → ⊥
+pub no_entry_by : (t : Option Unfolded) (u : Unfolded) (o : Option (Option Node)) → t ≡ Some u → IsSome o → None ≡ entry_in (there_by o) → (o ≡ Some None → t ≡ None) → ((p : PartFields) → there_by o ≡ Some (node.Part p) → ⊥) → ⊥
 no_entry_by t u None live some none gone part = let e : false ≡ true = some in cc
 no_entry_by t u (Some None) live some none gone part = let e = gone refl in cc
 no_entry_by t u (Some (Some (node.Part p))) live some none gone part = part p refl
@@ -91,7 +92,7 @@ module _ (old new : Shown) (d : Drafted) (c : Resident) (see : Sees old new d c)
               live = see.is.below n (name.Entry l.id) u w live above named;
               wanted = λ missing. wanted old new d c see n (name.Entry l.id) k l.hash sees (holds l e) parent missing;
             };
-        past = past_more new (seen d c) i n u w past live (some_node (seen d c n) k sees) above;
+        past = past_more new (seen d c) i n u w past live (is_there (seen d c n) k sees) above;
       }
 
   -- at a row whose entry is seen

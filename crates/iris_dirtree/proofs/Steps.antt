@@ -19,6 +19,7 @@ use Rattle.iris_dirtree.specs.Rows.{Row, Content, Directory, File, entry_of, ent
 use Rattle.iris_dirtree.specs.Steps.{Step, over, under, entry_name, above, crumb_above, AreNamed, Outside, Once}
 use Rattle.iris_dirtree.proofs.Blocks.{like_blocks}
 use Rattle.iris_dirtree.proofs.Likes.{like_row}
+use Rattle.iris_dirtree.proofs.Fitting.{led_entry}
 
 -- ---- the end of a way
 
@@ -78,10 +79,6 @@ turned_like x v w e k h i = by x.right h
     by true g = turn_by true x.row.id x.row.name x.row.content (entries x.other) (entries v) (entries x.other) (entries w) e e.body k g i refl
     by false g = turn_by false x.row.id x.row.name x.row.content (entries v) (entries x.other) (entries x.other) (entries w) e e.body k g i refl
 
-led_some : (id : ℕ) (label : List ℕ) (c : Content) (l m : Unfolded) → led (entry_of id label c l m) ≡ Some (record { id = id; blocks = blocks (entry_of id label c l m) })
-led_some id label (Directory inside) l m = refl
-led_some id label (File size counter versions) l m = refl
-
 -- a link made to a node that is like a row's entry leads there
 pub made_leads : (y : Row) (l m : Unfolded) (e : EntryFields) (h : Hash32) (k : Link) → IsLike (Some (row_entry y l m)) (node.Entry e) → blocks (row_entry y l m) < 2 ^ 64 → LinksTo e h k → led_by (Some k) ≡ led (row_entry y l m)
 made_leads y l m e h k like few to =
@@ -90,7 +87,7 @@ made_leads y l m e h k like few to =
     let n : k.blocks ≡ blocks (row_entry y l m) = to.blocks (subst (λ n. n < 2 ^ 64) (sym b) few) ∙ b in
     let j : k.id.0 ≡ y.id = ap (λ (f : FileId). f.0) to.id ∙ i.id_is in
     let r : led_by (Some k) ≡ Some (record { id = y.id; blocks = blocks (row_entry y l m) }) = cc in
-    r ∙ sym (led_some y.id y.name y.content l m)
+    r ∙ sym (led_entry y l m)
 
 -- ---- counts below a way
 

@@ -24,6 +24,7 @@ use Rattle.iris_dirtree.specs.Grafts.{Fork, entry_name, forked, around, over, lo
 use Rattle.iris_dirtree.specs.Splits.{IsRead, Lacking, IsWayShort}
 use Rattle.iris_dirtree.proofs.Likes.{like_row, leads_over, leads_empty}
 use Rattle.iris_dirtree.proofs.Fitting.{fits_around}
+use Rattle.iris_dirtree.proofs.Downs.{each_join}
 
 -- ---- lists
 
@@ -34,10 +35,6 @@ each_more P (y ∷ a) x h k = (h.0, each_more P a x h.1 k)
 pub each_front : {A : Type 0} (P : A → Type 0) (a : List A) (x : A) → Each P (a ++ x ∷ []) → Each P a × P x
 each_front P [] x h = (tt, h.0)
 each_front P (y ∷ a) x h = let r = each_front P a x h.1 in ((h.0, r.0), r.1)
-
-each_both : {A : Type 0} (P : A → Type 0) (a b : List A) → Each P a → Each P b → Each P (a ++ b)
-each_both P [] b h k = k
-each_both P (y ∷ a) b h k = (h.0, each_both P a b h.1 k)
 
 -- ---- ways
 
@@ -134,8 +131,8 @@ lacking_below n old c d to t forks rest at ks q h w k =
       less = k.less;
       more = k.more;
       is = around_both k.forks forks (Over k.row k.less k.more) ∙ ap (around forks) k.is ∙ w.is;
-      passed = each_both (Passes n) k.forks forks k.passed w.passed;
-      there = each_both (λ s. IsSome (seen d c (entry_name s.row))) k.forks forks k.there (crumbs_there old c d to forks ks w.crumbs);
+      passed = each_join (Passes n) k.forks forks k.passed w.passed;
+      there = each_join (λ s. IsSome (seen d c (entry_name s.row))) k.forks forks k.there (crumbs_there old c d to forks ks w.crumbs);
       lacks = k.lacks;
       hash = k.hash;
     }

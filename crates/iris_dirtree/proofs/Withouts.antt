@@ -13,15 +13,10 @@ use Rattle.iris_dirtree.specs.Planted.{IsRowName}
 use Rattle.iris_dirtree.specs.Rows.{Row, row_id, row_name, up}
 use Rattle.iris_dirtree.specs.Steps.{entry_name, Outside, Once}
 use Rattle.iris_dirtree.specs.Ways.{Any, before, is_named}
-use Rattle.iris_dirtree.proofs.Downs.{each_map, less_same}
-use Rattle.iris_dirtree.proofs.Moved.{each_in}
+use Rattle.iris_dirtree.proofs.Downs.{each_map, less_same, any_split}
+use Rattle.iris_dirtree.proofs.Moved.{each_in, not_before}
 
 -- ---- rows of a list
-
-pub any_split : (P : Row → Type 0) (a b : List Row) → Any P (a ++ b) → Any P a ⊎ Any P b
-any_split P [] b h = inr h
-any_split P (x ∷ a) b (inl h) = inl (inl h)
-any_split P (x ∷ a) b (inr h) = elim (any_split P a b h) [ inl g ↦ inl (inr g) | inr g ↦ inr g ]
 
 pub among_each : (P : Row → Type 0) (xs : List Row) → ((z : Row) → IsAmong z xs → P z) → Each P xs
 among_each P [] f = tt
@@ -92,13 +87,8 @@ apart_without e (y ∷ ys) x h (inr k) t a = (elim (e y) as (λ b. Any (λ (r : 
 
 -- ---- names
 
-named_by : (a b : Bool) → (not a && not b) ≡ true → (a ≡ false) × (b ≡ false)
-named_by true b h = absurd (both_ways true (sym h) refl)
-named_by false true h = absurd (both_ways true (sym h) refl)
-named_by false false h = (refl, refl)
-
 pub named_is : (n : List ℕ) (r : Row) → is_named n r ≡ true → r.name ≡ n
-named_is n r h = let k = named_by (less_name r.name n) (less_name n r.name) h in less_same r.name n k.0 k.1
+named_is n r h = let k = not_before (less_name r.name n) (less_name n r.name) h in less_same r.name n k.0 k.1
 
 pub is_it : (n : List ℕ) (r : Row) → r.name ≡ n → is_named n r ≡ true
 is_it n r e = ap (λ (a : List ℕ). not (less_name a n) && not (less_name n a)) e ∙ ap (λ b. not b && not b) (less_not n)

@@ -15,13 +15,14 @@ use Rattle.iris_dirtree.specs.Needs.{IsShort, ListedInHand}
 use Rattle.iris_dirtree.specs.Nodes.{between}
 use Rattle.iris_dirtree.specs.Grafts.{Fits, Leads, Reached, WasHash, over}
 use Rattle.iris_dirtree.specs.Splits.{IsKnown, IsSplitWay}
-use Rattle.iris_dirtree.proofs.Sees.{some_node}
-use Rattle.iris_dirtree.proofs.Fitting.{row_node_id, seen_put, fits_around}
+use Rattle.iris_dirtree.proofs.Fitting.{row_node_id, fits_around}
 use Rattle.iris_dirtree.proofs.Growth.{only_none, only_more}
 use Rattle.iris_dirtree.proofs.Grafting.{only_through, stays_seen, grown_of}
 use Rattle.iris_dirtree.proofs.Implanting.{Tables, see, begins, leads_in, splits, growing, grow_start, there_root, built_all, planted, hand_hash}
 use Rattle.iris_dirtree.proofs.Shortages.{short_of, short_below}
 use Rattle.iris_dirtree.proofs.inserting.plant.Goals as goal
+use Rattle.iris_dirtree.proofs.Owned.{put_seen}
+use Rattle.iris_dirtree.proofs.There.{is_there}
 
 pub returns-in_err-above-clause-short : goal.returns-in_err-above-clause-short
 returns-in_err-above-clause-short c =
@@ -97,7 +98,7 @@ returns-clause-planted c = λ old new made x rows listed is_row holds tree count
     let start = grow_start key dir x k d q old new made rows n1 all d1 d2 a.path.items a.last a.at r h.low h.high hash c.in_ok-seat.seat there halved c.in_ok-seat.ensures.link c.in_ok-seat.ensures.set was in
     let grown = grown_of old q k.id d d3 root t u c.in_ok-link.link (c.in_ok-link.ensures.grown old q k.id d root t u (growing key dir x k d q old new made rows n1 all there) start) in
     let seat = between h.low h.high k in
-    let come2 = some_node (seen d2 q (name.Entry k.id)) (node.Entry seat) (seen_put d1 d2 q (Some (name.Entry a.last)) seat c.in_ok-seat.ensures.set).0 in
+    let come2 = is_there (seen d2 q (name.Entry k.id)) (node.Entry seat) (put_seen d1 d2 q (Some (name.Entry a.last)) seat c.in_ok-seat.ensures.set) in
     let comes = stays_seen d2 e q (only_through d2 d3 e c.in_ok-link.ensures.entries c.in_ok-set_top.ensures.entries) (name.Entry k.id) come2 in
     let built = built_all key dir x k d q old new made rows n1 all a.path.items js a.last a.at r way in
     let only = only_through d d1 e c.in_ok-halves.ensures.entries

@@ -17,7 +17,6 @@ use Rattle.iris_dirtree.specs.Rows.{Row, arranged, up, row_id}
 use Rattle.iris_dirtree.specs.Steps.{crumb_above}
 use Rattle.iris_dirtree.specs.Ways.{is_named, near_name}
 use Rattle.iris_dirtree.proofs.Begins.{holder, seek_start, stop_short}
-use Rattle.iris_dirtree.proofs.Climbs.{is_there}
 use Rattle.iris_dirtree.proofs.Seeks.{found_joining}
 use Rattle.iris_dirtree.proofs.Sees.{sees_drafts}
 use Rattle.iris_dirtree.proofs.Withouts.{taken_without, once_of, distinct_without}
@@ -25,6 +24,7 @@ use Rattle.iris_dirtree.proofs.Plants.{rising_start}
 use Rattle.iris_dirtree.proofs.Planting.{IsMade, planted, row_taken, made_stays, only_stays}
 use Rattle.iris_dirtree.proofs.removing.unplant.Goals as goal
 use Rattle.iris_dirtree.proofs.removing.unplant.Goals.{In_ok-path}
+use Rattle.iris_dirtree.proofs.There.{is_there}
 
 -- the row is found
 found : (c : In_ok-path) (old new : Shown) (all : List Row) → Listed c.args.keys.now.order c.args.dir c.args.draft.now c.args.cache.now old new all
