@@ -17,7 +17,6 @@ use Rattle.iris_node.specs.Trees.{Shown}
 use Rattle.iris_node.specs.Unfolded.{Unfolded, Absent, blocks, id_of}
 use Rattle.iris_shape.specs.Treap.{Treap, treap, rows, without, Every}
 use Rattle.iris_shape.proofs.Treaps.{every_of, rows_treap}
-use Rattle.iris_cache.specs.declared.held.Held.{Held}
 use Rattle.iris_cache.specs.declared.draft.Change.{Change}
 use Rattle.iris_cache.specs.Resident.{Resident, held}
 use Rattle.iris_cache.specs.Drafted.{Drafted, drafted, seen, known_by, there_by, set_to, taken_away}
