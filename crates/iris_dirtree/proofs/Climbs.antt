@@ -10,7 +10,6 @@ use Rattle.iris_node.specs.declared.node.Link.{Link}
 use Rattle.iris_node.specs.declared.node.Node.{Node}
 use Rattle.iris_node.specs.declared.node.Node.TheVariants as node
 use Rattle.iris_node.specs.Fields.{EntryFields}
-use Rattle.iris_node.specs.Local.{led, led_by}
 use Rattle.iris_node.specs.Trees.{Shown}
 use Rattle.iris_node.specs.Unfolded.{id_of, blocks}
 use Rattle.iris_shape.specs.Treap.{Treap, Empty, Over, Every}
@@ -26,8 +25,9 @@ use Rattle.iris_dirtree.specs.Rows.{Row, entries}
 use Rattle.iris_dirtree.specs.Steps.{Fork, forked, under, entry_name, above, crumb_above, WasHash, Seat, Seated, Leads, IsCrumb, AreCrumbs, Outside, Once, Rising}
 use Rattle.iris_dirtree.proofs.Likes.{like_row}
 use Rattle.iris_dirtree.proofs.Owned.{seen_same, parent_same, put_seen, put_parent, put_other, still_seen, put_off}
-use Rattle.iris_dirtree.proofs.Steps.{turned_id, under_more, above_more, turned_like, made_leads, under_blocks, once_over, once_under, outside_over}
+use Rattle.iris_dirtree.proofs.Steps.{turned_id, under_more, above_more, turned_like, under_blocks, once_over, once_under, outside_over}
 use Rattle.iris_dirtree.proofs.There.{is_there}
+use Rattle.iris_dirtree.proofs.Fitting.{leads_to, turned_hashes}
 
 -- ---- what a draft says
 
@@ -110,20 +110,12 @@ module _ (old : Shown) (c : Resident) (t : Treap Row) where
 
   -- ---- one step up
 
-  turned_holds : (b : Bool) (link : Option Link) (e : EntryFields) (w : Treap Row) (m : Name) (h : Hash32) → Leads old c link w → ((m : Name) (h : Hash32) → Holds (node.Entry e) m h → WasHash old c m h) → Holds (node.Entry (turned b link e)) m h → WasHash old c m h
-  turned_holds true link e w m h leads was (inl k) = was m h (inl k)
-  turned_holds true link e w m h leads was (inr (inl k)) = leads.hash m h k
-  turned_holds true link e w m h leads was (inr (inr k)) = was m h (inr (inr k))
-  turned_holds false link e w m h leads was (inl k) = leads.hash m h k
-  turned_holds false link e w m h leads was (inr (inl k)) = was m h (inr (inl k))
-  turned_holds false link e w m h leads was (inr (inr k)) = was m h (inr (inr k))
-
-  over_leads : (x : Fork) (w : Treap Row) (e : EntryFields) (h : Hash32) (k : Link) → IsLike (Some (entries (forked x w))) (node.Entry e) → blocks (entries (forked x w)) < 2 ^ 64 → LinksTo e h k → led_by (Some k) ≡ led (entries (forked x w))
-  over_leads x w e h k like few to = by x.right like few
+  over_leads : (x : Fork) (w : Treap Row) (e : EntryFields) (h : Hash32) (k : Link) → IsLike (Some (entries (forked x w))) (node.Entry e) → blocks (entries (forked x w)) < 2 ^ 64 → LinksTo e h k → WasHash old c (entry_name x.row) h → Leads old c (Some k) (forked x w)
+  over_leads x w e h k like few to was = by x.right like few
     where
-      by : (r : Bool) → IsLike (Some (entries (cond r (Over x.row x.other w) (Over x.row w x.other)))) (node.Entry e) → blocks (entries (cond r (Over x.row x.other w) (Over x.row w x.other))) < 2 ^ 64 → led_by (Some k) ≡ led (entries (cond r (Over x.row x.other w) (Over x.row w x.other)))
-      by true g f = made_leads x.row (entries x.other) (entries w) e h k g f to
-      by false g f = made_leads x.row (entries w) (entries x.other) e h k g f to
+      by : (r : Bool) → IsLike (Some (entries (cond r (Over x.row x.other w) (Over x.row w x.other)))) (node.Entry e) → blocks (entries (cond r (Over x.row x.other w) (Over x.row w x.other))) < 2 ^ 64 → Leads old c (Some k) (cond r (Over x.row x.other w) (Over x.row w x.other))
+      by true g f = leads_to old c x.row x.other w e h k g f to was
+      by false g f = leads_to old c x.row w x.other e h k g f to was
 
   pub rising_more : (d e f : Drafted) (dir : FileId) (u : Treap Row) (es : List Crumb) (crumb : Crumb) (link : Option Link) (k : Link) → Once u → blocks (entries u) < 2 ^ 64 → IsSome (seen d c (name.Entry dir))
       → LinksTo (turned crumb.right link crumb.node) crumb.hash k → IsPut e f (Some (name.Entry (crumb_above dir es))) (turned crumb.right link crumb.node)
@@ -157,9 +149,9 @@ module _ (old : Shown) (c : Resident) (t : Treap Row) where
         done = v;
         is = is;
         crumbs = r.crumbs;
-        leads = record { led_is = over_leads x w tn crumb.hash k like small to; hash = λ m h g. reach m h n id g.0 g.1 r.crumb.reached };
+        leads = over_leads x w tn crumb.hash k like small to r.crumb.reached;
         seated = seated_over f (above (name.Entry dir) r.steps) x w
-            (λ node g. seat (above (name.Entry dir) r.steps) v node n sees g like hangs (stays (above (name.Entry dir) r.steps) (above_seen d (name.Entry dir) r.steps es r.crumbs there)) (λ m h i. turned_holds crumb.right link crumb.node w m h rise.leads r.crumb.hashes i))
+            (λ node g. seat (above (name.Entry dir) r.steps) v node n sees g like hangs (stays (above (name.Entry dir) r.steps) (above_seen d (name.Entry dir) r.steps es r.crumbs there)) (turned_hashes old c crumb.node crumb.right link r.crumb.hashes rise.leads.hash))
             (λ none. absurd (not_both (seen f c n) (node.Entry tn) sees none))
             (seated_same d f n x.other (every_pair (λ z. n ≢ entry_name z) (λ z. Outside (entry_name z) w) (λ z. drafted f (entry_name z) ≡ drafted d (entry_name z)) x.other (λ z a b. off (entry_name z) (λ g. a (sym g)) ∙ rise.off (entry_name z) b) apart.row_other apart.other) (λ g. here) r.crumb.other)
             (seated_same e f n w (every_map (λ z. n ≢ entry_name z) (λ z. drafted f (entry_name z) ≡ drafted e (entry_name z)) w (λ z a. off (entry_name z) (λ g. a (sym g))) apart.row) (λ g. here) (subst S at rise.seated));
@@ -170,14 +162,6 @@ module _ (old : Shown) (c : Resident) (t : Treap Row) where
     where
       not_both : (o : Option Node) (x : Node) → o ≡ Some x → o ≡ None → ⊥
       not_both o x a b = cc
-
-      reach : (m : Name) (h : Hash32) (n : Name) → name.Entry (turned crumb.right link crumb.node).id ≡ n → m ≡ name.Entry k.id → h ≡ k.hash → WasHash old c n crumb.hash → WasHash old c m h
-      reach m h n id a b was =
-          let i : m ≡ n = a ∙ ap name.Entry to.id ∙ id in
-          let j : h ≡ crumb.hash = b ∙ to.hash in
-          let P : Name → Type 0 = λ n. WasHash old c n h in
-          let Q : Hash32 → Type 0 = λ h. WasHash old c n h in
-          subst P (sym i) (subst Q (sym j) was)
 
       seat : (p : Name) (v : Treap Row) (node' : Node) (n : Name) → seen f c n ≡ Some (node.Entry (turned crumb.right link crumb.node)) → seen f c n ≡ Some node' → IsLike (Some (entries v)) (node.Entry (turned crumb.right link crumb.node)) → parent_after f c n ≡ Some p → IsSome (seen f c p)
           → ((m : Name) (h : Hash32) → Holds (node.Entry (turned crumb.right link crumb.node)) m h → WasHash old c m h) → Seat old c f p n (entries v) node'
