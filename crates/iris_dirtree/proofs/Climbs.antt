@@ -10,24 +10,24 @@ use Rattle.iris_node.specs.declared.node.Link.{Link}
 use Rattle.iris_node.specs.declared.node.Node.{Node}
 use Rattle.iris_node.specs.declared.node.Node.TheVariants as node
 use Rattle.iris_node.specs.Fields.{EntryFields}
-use Rattle.iris_node.specs.Local.{led, led_by}
 use Rattle.iris_node.specs.Trees.{Shown}
 use Rattle.iris_node.specs.Unfolded.{id_of, blocks}
 use Rattle.iris_shape.specs.Treap.{Treap, Empty, Over, Every}
 use Rattle.iris_shape.proofs.Treaps.{every_map}
 use Rattle.iris_cache.specs.Resident.{Resident}
-use Rattle.iris_cache.specs.Drafted.{Drafted, drafted, seen, set_to}
+use Rattle.iris_cache.specs.Drafted.{Drafted, drafted, seen}
 use Rattle.iris_cache.specs.Pictures.{Holds, IsLike, parent_after}
 use Rattle.iris_dirtree.specs.declared.removing.Crumb.{Crumb}
 use Rattle.iris_dirtree.specs.Counts.{IsEntryName}
 use Rattle.iris_dirtree.specs.Nodes.{IsPut, turned, LinksTo}
 use Rattle.iris_dirtree.specs.Planted.{IsWithin}
 use Rattle.iris_dirtree.specs.Rows.{Row, entries}
-use Rattle.iris_dirtree.specs.Steps.{Step, over, under, entry_name, above, crumb_above, WasHash, Seat, Seated, Leads, IsCrumb, AreCrumbs, Outside, Once, Rising}
+use Rattle.iris_dirtree.specs.Steps.{Fork, forked, under, entry_name, above, crumb_above, WasHash, Seat, Seated, Leads, IsCrumb, AreCrumbs, Outside, Once, Rising}
 use Rattle.iris_dirtree.proofs.Likes.{like_row}
 use Rattle.iris_dirtree.proofs.Owned.{seen_same, parent_same, put_seen, put_parent, put_other, still_seen, put_off}
-use Rattle.iris_dirtree.proofs.Steps.{turned_id, under_more, above_more, turned_like, made_leads, under_blocks, once_over, once_under, outside_over}
+use Rattle.iris_dirtree.proofs.Steps.{turned_id, under_more, above_more, turned_like, under_blocks, once_over, once_under, outside_over}
 use Rattle.iris_dirtree.proofs.There.{is_there}
+use Rattle.iris_dirtree.proofs.Fitting.{leads_to, turned_hashes}
 
 -- ---- what a draft says
 
@@ -58,8 +58,8 @@ module _ (old : Shown) (c : Resident) (t : Treap Row) where
         seated_same d e n m h.2 stays s.3,
       )
 
-  pub seated_over : (f : Drafted) (q : Name) (x : Step) (w : Treap Row) → ((node : Node) → seen f c (entry_name x.row) ≡ Some node → Seat old c f q (entry_name x.row) (entries (over x w)) node)
-      → (seen f c (entry_name x.row) ≡ None → IsWithin (over x w) t) → Seated old c t f (entry_name x.row) x.other → Seated old c t f (entry_name x.row) w → Seated old c t f q (over x w)
+  pub seated_over : (f : Drafted) (q : Name) (x : Fork) (w : Treap Row) → ((node : Node) → seen f c (entry_name x.row) ≡ Some node → Seat old c f q (entry_name x.row) (entries (forked x w)) node)
+      → (seen f c (entry_name x.row) ≡ None → IsWithin (forked x w) t) → Seated old c t f (entry_name x.row) x.other → Seated old c t f (entry_name x.row) w → Seated old c t f q (forked x w)
   seated_over f q x w seat away other below = by x.right seat away
     where
       by : (r : Bool) → ((node : Node) → seen f c (entry_name x.row) ≡ Some node → Seat old c f q (entry_name x.row) (entries (cond r (Over x.row x.other w) (Over x.row w x.other))) node)
@@ -69,39 +69,39 @@ module _ (old : Shown) (c : Resident) (t : Treap Row) where
 
   -- ---- crumbs
 
-  pub crumb_id : (d : Drafted) (x : Step) (e : Crumb) → IsCrumb old c t d x e → name.Entry e.node.id ≡ entry_name x.row
+  pub crumb_id : (d : Drafted) (x : Fork) (e : Crumb) → IsCrumb old c t d x e → name.Entry e.node.id ≡ entry_name x.row
   crumb_id d x e h = by x.right h.like
     where
       by : (r : Bool) → IsLike (Some (entries (cond r (Over x.row x.other h.side) (Over x.row h.side x.other)))) (node.Entry e.node) → name.Entry e.node.id ≡ entry_name x.row
       by true g = ap (λ i. name.Entry (id_of i)) (like_row x.row (entries x.other) (entries h.side) e.node g).id_is
       by false g = ap (λ i. name.Entry (id_of i)) (like_row x.row (entries h.side) (entries x.other) e.node g).id_is
 
-  pub crumbs_above : (d : Drafted) (p : Name) (i : FileId) (xs : List Step) (es : List Crumb) → name.Entry i ≡ p → AreCrumbs old c t d xs es → name.Entry (crumb_above i es) ≡ above p xs
+  pub crumbs_above : (d : Drafted) (p : Name) (i : FileId) (xs : List Fork) (es : List Crumb) → name.Entry i ≡ p → AreCrumbs old c t d xs es → name.Entry (crumb_above i es) ≡ above p xs
   crumbs_above d p i [] [] h k = h
   crumbs_above d p i [] (e ∷ es) h k = absurd k
   crumbs_above d p i (x ∷ xs) [] h k = absurd k
   crumbs_above d p i (x ∷ xs) (e ∷ es) h k = crumbs_above d (entry_name x.row) e.node.id xs es (crumb_id d x e k.0) k.1
 
-  pub above_seen : (d : Drafted) (p : Name) (xs : List Step) (es : List Crumb) → AreCrumbs old c t d xs es → IsSome (seen d c p) → IsSome (seen d c (above p xs))
+  pub above_seen : (d : Drafted) (p : Name) (xs : List Fork) (es : List Crumb) → AreCrumbs old c t d xs es → IsSome (seen d c p) → IsSome (seen d c (above p xs))
   above_seen d p [] [] k h = h
   above_seen d p [] (e ∷ es) k h = absurd k
   above_seen d p (x ∷ xs) [] k h = absurd k
   above_seen d p (x ∷ xs) (e ∷ es) k h = above_seen d (entry_name x.row) xs es k.1 (is_there (seen d c (entry_name x.row)) (node.Entry e.node) k.0.sees)
 
-  pub crumbs_more : (d : Drafted) (xs : List Step) (es : List Crumb) (x : Step) (e : Crumb) → AreCrumbs old c t d xs es → IsCrumb old c t d x e → AreCrumbs old c t d (xs ++ x ∷ []) (es ++ e ∷ [])
+  pub crumbs_more : (d : Drafted) (xs : List Fork) (es : List Crumb) (x : Fork) (e : Crumb) → AreCrumbs old c t d xs es → IsCrumb old c t d x e → AreCrumbs old c t d (xs ++ x ∷ []) (es ++ e ∷ [])
   crumbs_more d [] [] x e k h = (h, tt)
   crumbs_more d [] (f ∷ es) x e k h = absurd k
   crumbs_more d (y ∷ xs) [] x e k h = absurd k
   crumbs_more d (y ∷ xs) (f ∷ es) x e k h = (k.0, crumbs_more d xs es x e k.1 h)
 
-  record Last (d : Drafted) (xs : List Step) (es : List Crumb) (e : Crumb) : Type 0 where
-    steps : List Step
-    last : Step
+  record Last (d : Drafted) (xs : List Fork) (es : List Crumb) (e : Crumb) : Type 0 where
+    steps : List Fork
+    last : Fork
     is : xs ≡ steps ++ last ∷ []
     crumbs : AreCrumbs old c t d steps es
     crumb : IsCrumb old c t d last e
 
-  crumbs_last : (d : Drafted) (xs : List Step) (es : List Crumb) (e : Crumb) → AreCrumbs old c t d xs (es ++ e ∷ []) → Last d xs es e
+  crumbs_last : (d : Drafted) (xs : List Fork) (es : List Crumb) (e : Crumb) → AreCrumbs old c t d xs (es ++ e ∷ []) → Last d xs es e
   crumbs_last d [] [] e k = absurd k
   crumbs_last d [] (f ∷ es) e k = absurd k
   crumbs_last d (x ∷ []) [] e k = record { steps = []; last = x; is = refl; crumbs = tt; crumb = k.0 }
@@ -110,20 +110,12 @@ module _ (old : Shown) (c : Resident) (t : Treap Row) where
 
   -- ---- one step up
 
-  turned_holds : (b : Bool) (link : Option Link) (e : EntryFields) (w : Treap Row) (m : Name) (h : Hash32) → Leads old c link w → ((m : Name) (h : Hash32) → Holds (node.Entry e) m h → WasHash old c m h) → Holds (node.Entry (turned b link e)) m h → WasHash old c m h
-  turned_holds true link e w m h leads was (inl k) = was m h (inl k)
-  turned_holds true link e w m h leads was (inr (inl k)) = leads.hash m h k
-  turned_holds true link e w m h leads was (inr (inr k)) = was m h (inr (inr k))
-  turned_holds false link e w m h leads was (inl k) = leads.hash m h k
-  turned_holds false link e w m h leads was (inr (inl k)) = was m h (inr (inl k))
-  turned_holds false link e w m h leads was (inr (inr k)) = was m h (inr (inr k))
-
-  over_leads : (x : Step) (w : Treap Row) (e : EntryFields) (h : Hash32) (k : Link) → IsLike (Some (entries (over x w))) (node.Entry e) → blocks (entries (over x w)) < 2 ^ 64 → LinksTo e h k → led_by (Some k) ≡ led (entries (over x w))
-  over_leads x w e h k like few to = by x.right like few
+  over_leads : (x : Fork) (w : Treap Row) (e : EntryFields) (h : Hash32) (k : Link) → IsLike (Some (entries (forked x w))) (node.Entry e) → blocks (entries (forked x w)) < 2 ^ 64 → LinksTo e h k → WasHash old c (entry_name x.row) h → Leads old c (Some k) (forked x w)
+  over_leads x w e h k like few to was = by x.right like few
     where
-      by : (r : Bool) → IsLike (Some (entries (cond r (Over x.row x.other w) (Over x.row w x.other)))) (node.Entry e) → blocks (entries (cond r (Over x.row x.other w) (Over x.row w x.other))) < 2 ^ 64 → led_by (Some k) ≡ led (entries (cond r (Over x.row x.other w) (Over x.row w x.other)))
-      by true g f = made_leads x.row (entries x.other) (entries w) e h k g f to
-      by false g f = made_leads x.row (entries w) (entries x.other) e h k g f to
+      by : (r : Bool) → IsLike (Some (entries (cond r (Over x.row x.other w) (Over x.row w x.other)))) (node.Entry e) → blocks (entries (cond r (Over x.row x.other w) (Over x.row w x.other))) < 2 ^ 64 → Leads old c (Some k) (cond r (Over x.row x.other w) (Over x.row w x.other))
+      by true g f = leads_to old c x.row x.other w e h k g f to was
+      by false g f = leads_to old c x.row w x.other e h k g f to was
 
   pub rising_more : (d e f : Drafted) (dir : FileId) (u : Treap Row) (es : List Crumb) (crumb : Crumb) (link : Option Link) (k : Link) → Once u → blocks (entries u) < 2 ^ 64 → IsSome (seen d c (name.Entry dir))
       → LinksTo (turned crumb.right link crumb.node) crumb.hash k → IsPut e f (Some (name.Entry (crumb_above dir es))) (turned crumb.right link crumb.node)
@@ -132,7 +124,7 @@ module _ (old : Shown) (c : Resident) (t : Treap Row) where
       let r = crumbs_last d rise.front es crumb rise.crumbs in
       let x = r.last in
       let w = rise.done in
-      let v = over x w in
+      let v = forked x w in
       let n = entry_name x.row in
       let tn = turned crumb.right link crumb.node in
       let q = name.Entry (crumb_above dir es) in
@@ -157,9 +149,9 @@ module _ (old : Shown) (c : Resident) (t : Treap Row) where
         done = v;
         is = is;
         crumbs = r.crumbs;
-        leads = record { led_is = over_leads x w tn crumb.hash k like small to; hash = λ m h g. reach m h n id g.0 g.1 r.crumb.reached };
+        leads = over_leads x w tn crumb.hash k like small to r.crumb.reached;
         seated = seated_over f (above (name.Entry dir) r.steps) x w
-            (λ node g. seat (above (name.Entry dir) r.steps) v node n sees g like hangs (stays (above (name.Entry dir) r.steps) (above_seen d (name.Entry dir) r.steps es r.crumbs there)) (λ m h i. turned_holds crumb.right link crumb.node w m h rise.leads r.crumb.hashes i))
+            (λ node g. seat (above (name.Entry dir) r.steps) v node n sees g like hangs (stays (above (name.Entry dir) r.steps) (above_seen d (name.Entry dir) r.steps es r.crumbs there)) (turned_hashes old c crumb.node crumb.right link r.crumb.hashes rise.leads.hash))
             (λ none. absurd (not_both (seen f c n) (node.Entry tn) sees none))
             (seated_same d f n x.other (every_pair (λ z. n ≢ entry_name z) (λ z. Outside (entry_name z) w) (λ z. drafted f (entry_name z) ≡ drafted d (entry_name z)) x.other (λ z a b. off (entry_name z) (λ g. a (sym g)) ∙ rise.off (entry_name z) b) apart.row_other apart.other) (λ g. here) r.crumb.other)
             (seated_same e f n w (every_map (λ z. n ≢ entry_name z) (λ z. drafted f (entry_name z) ≡ drafted e (entry_name z)) w (λ z a. off (entry_name z) (λ g. a (sym g))) apart.row) (λ g. here) (subst S at rise.seated));
@@ -170,14 +162,6 @@ module _ (old : Shown) (c : Resident) (t : Treap Row) where
     where
       not_both : (o : Option Node) (x : Node) → o ≡ Some x → o ≡ None → ⊥
       not_both o x a b = cc
-
-      reach : (m : Name) (h : Hash32) (n : Name) → name.Entry (turned crumb.right link crumb.node).id ≡ n → m ≡ name.Entry k.id → h ≡ k.hash → WasHash old c n crumb.hash → WasHash old c m h
-      reach m h n id a b was =
-          let i : m ≡ n = a ∙ ap name.Entry to.id ∙ id in
-          let j : h ≡ crumb.hash = b ∙ to.hash in
-          let P : Name → Type 0 = λ n. WasHash old c n h in
-          let Q : Hash32 → Type 0 = λ h. WasHash old c n h in
-          subst P (sym i) (subst Q (sym j) was)
 
       seat : (p : Name) (v : Treap Row) (node' : Node) (n : Name) → seen f c n ≡ Some (node.Entry (turned crumb.right link crumb.node)) → seen f c n ≡ Some node' → IsLike (Some (entries v)) (node.Entry (turned crumb.right link crumb.node)) → parent_after f c n ≡ Some p → IsSome (seen f c p)
           → ((m : Name) (h : Hash32) → Holds (node.Entry (turned crumb.right link crumb.node)) m h → WasHash old c m h) → Seat old c f p n (entries v) node'

@@ -1,6 +1,5 @@
 -- The parent of a child, set anew with the child's count.
 use Rattle.std.proofs.Common.{◌≡◌, ◌<◌, ◌^◌, ℕ, Bool, true, false, Option, Some, refl, ap, sym, ◌∙◌, subst}
-use Rattle.std.specs.Prelude.{IsSome}
 use Rattle.iris_name.specs.Names.{same_name}
 use Rattle.iris_name.specs.NameLaws.{same_name-true}
 use Rattle.iris_name.specs.declared.name.Name.{Name}

@@ -1,5 +1,5 @@
 -- Nodes set in their places, and what is seen of a treap's rows while others are set.
-use Rattle.std.proofs.Common.{◌≡◌, ◌⊎◌, ◌+◌, ◌≤◌, ◌<◌, ◌^◌, inl, inr, ℕ, Bool, true, false, cond, List, [], ◌∷◌, Option, Some, None, refl, ap, sym, ◌∙◌, subst, arith}
+use Rattle.std.proofs.Common.{◌≡◌, ◌⊎◌, ◌≤◌, ◌<◌, ◌^◌, inl, inr, ℕ, Bool, true, false, cond, List, [], ◌∷◌, Option, Some, None, refl, ap, sym, ◌∙◌, subst, arith}
 use Rattle.iris_name.specs.Names.{same_name}
 use Rattle.iris_name.specs.NameLaws.{same_name-true}
 use Rattle.iris_name.specs.declared.name.Hash32.{Hash32}
@@ -12,28 +12,20 @@ use Rattle.iris_node.specs.declared.node.Node.TheVariants as node
 use Rattle.iris_node.specs.Fields.{EntryFields}
 use Rattle.iris_node.specs.Local.{Lead, led, led_by, local, entry_local}
 use Rattle.iris_node.specs.Trees.{Shown}
-use Rattle.iris_node.specs.Unfolded.{Unfolded, Absent, Folder, Leaf, Even, Split, Stored, id_of, blocks}
+use Rattle.iris_node.specs.Unfolded.{Unfolded, Absent, id_of, blocks}
 use Rattle.iris_shape.specs.Treap.{Treap, Empty, Over}
 use Rattle.iris_cache.specs.Resident.{Resident}
 use Rattle.iris_cache.specs.Drafted.{Drafted, drafted, seen}
 use Rattle.iris_cache.specs.Pictures.{Holds, IsLike, LinkHolds, parent_after}
 use Rattle.iris_dirtree.specs.Rows.{Row, Content, Directory, File, entries, entry_of, row_entry}
 use Rattle.iris_dirtree.specs.Hands.{IsRowNode, HoldsTrue}
-use Rattle.iris_dirtree.specs.Nodes.{turned, between, link_blocks, own_blocks, node_blocks, LinksTo, IsPut}
+use Rattle.iris_dirtree.specs.Nodes.{turned, between, node_blocks, LinksTo, IsPut}
 use Rattle.iris_dirtree.specs.Grafts.{Fork, entry_name, forked, around, over, InRows, Once, WasHash, Fits, Leads}
 use Rattle.iris_dirtree.proofs.Likes.{like_row}
 use Rattle.iris_dirtree.proofs.Owned.{put_off, seen_same, parent_same, put_other, put_seen, put_parent}
+use Rattle.iris_dirtree.proofs.Blocks.{like_blocks}
 
 -- ---- counts
-
-lead_blocks : Option Lead → ℕ
-lead_blocks None = 0
-lead_blocks (Some l) = l.blocks
-
-link_lead : (k : Option Link) → link_blocks k ≡ lead_blocks (led_by k)
-unfolding lead_blocks
-link_lead None = refl
-link_lead (Some l) = refl
 
 pub led_entry : (y : Row) (a b : Unfolded) → led (row_entry y a b) ≡ Some (record { id = y.id; blocks = blocks (row_entry y a b) })
 led_entry y a b = by y.id y.name y.content a b
@@ -42,43 +34,14 @@ led_entry y a b = by y.id y.name y.content a b
     by id label (Directory inside) l m = refl
     by id label (File size counter versions) l m = refl
 
-lead_count : (u : Unfolded) → lead_blocks (led u) ≡ blocks u
-unfolding lead_blocks
-lead_count Absent = refl
-lead_count (Folder id label less more inside) = refl
-lead_count (Leaf id label less more size counter versions) = refl
-lead_count (Even version) = refl
-lead_count (Split file level index l h) = refl
-lead_count (Stored version bytes) = refl
-
-counts : (k : Option Link) (u : Unfolded) → led_by k ≡ led u → link_blocks k ≡ blocks u
-counts k u h = link_lead k ∙ ap lead_blocks h ∙ lead_count u
-
 -- ---- what an entry's node says by itself
 
 -- what a row's entry says, by its content
-says : (id : ℕ) (label : List ℕ) (c : Content) (a b : Unfolded) (e : EntryFields) (body : Body) → local (entry_of id label c a b) ≡ Some (entry_local e body)
-    → (e.id.0 ≡ id) × (led_by e.left ≡ led a) × (led_by e.right ≡ led b) × (link_blocks e.left + (own_blocks body + link_blocks e.right) ≡ blocks (entry_of id label c a b))
-says id label (Directory inside) a b e (Dir top) h =
-    let l : led_by e.left ≡ led a = cc in
-    let r : led_by e.right ≡ led b = cc in
-    let t : led_by top ≡ led inside = cc in
-    let x = counts e.left a l in
-    let y = counts e.right b r in
-    let z = counts top inside t in
-    (cc, l, r, omega (arith, x, y, z))
+says : (id : ℕ) (label : List ℕ) (c : Content) (a b : Unfolded) (e : EntryFields) (body : Body) → local (entry_of id label c a b) ≡ Some (entry_local e body) → (e.id.0 ≡ id) × (led_by e.left ≡ led a) × (led_by e.right ≡ led b)
+says id label (Directory inside) a b e (Dir top) h = (cc, cc, cc)
 says id label (Directory inside) a b e (FileBody size counter versions) h = cc
 says id label (File size counter kept) a b e (Dir top) h = cc
-says id label (File size counter kept) a b e (FileBody s k v) h =
-    let l : led_by e.left ≡ led a = cc in
-    let r : led_by e.right ≡ led b = cc in
-    let t : s ≡ size = cc in
-    let x = counts e.left a l in
-    let y = counts e.right b r in
-    (cc, l, r, ap (λ n. n + (own_blocks (FileBody s k v) + link_blocks e.right)) x ∙ ap (λ n. blocks a + (own_blocks (FileBody n k v) + link_blocks e.right)) t ∙ ap (λ n. blocks a + (own_blocks (FileBody size k v) + n)) y)
-
-pub like_blocks : (y : Row) (a b : Unfolded) (e : EntryFields) → IsLike (Some (row_entry y a b)) (node.Entry e) → node_blocks e ≡ blocks (row_entry y a b)
-like_blocks y a b e h = (says y.id y.name y.content a b e e.body h).3
+says id label (File size counter kept) a b e (FileBody s k v) h = (cc, cc, cc)
 
 -- other links beside it, that lead elsewhere
 resays : (id : ℕ) (label : List ℕ) (c : Content) (a b a2 b2 : Unfolded) (e : EntryFields) (body : Body) (l r : Option Link) → local (entry_of id label c a b) ≡ Some (entry_local e body) → led_by l ≡ led a2 → led_by r ≡ led b2
@@ -130,9 +93,10 @@ leads_to old c y l m e h k like few links was =
     let a = entries l in
     let b = entries m in
     let r = says y.id y.name y.content a b e e.body like in
-    let lt : node_blocks e < 2 ^ 64 = subst (λ n. n < 2 ^ 64) (sym r.3) few in
+    let all = like_blocks (row_entry y a b) e e.body like in
+    let lt : node_blocks e < 2 ^ 64 = subst (λ n. n < 2 ^ 64) (sym all) few in
     let i : k.id.0 ≡ y.id = ap (λ x. x.0) links.id ∙ r.0 in
-    let n : k.blocks ≡ blocks (row_entry y a b) = links.blocks lt ∙ r.3 in
+    let n : k.blocks ≡ blocks (row_entry y a b) = links.blocks lt ∙ all in
     let q : Option Lead = Some (record { id = y.id; blocks = blocks (row_entry y a b) }) in
     record {
       led_is = (λ t. Some (record { id = i t; blocks = n t })) ∙ sym (led_entry y a b);

@@ -14,8 +14,8 @@ use Rattle.iris_node.specs.Local.{led, led_by, local, entry_local}
 use Rattle.iris_node.specs.Trees.{Shown, IsAbove}
 use Rattle.iris_node.specs.Unfolded.{Unfolded, Folder, blocks}
 use Rattle.iris_shape.specs.Treap.{Treap, Empty, Over, low, high}
-use Rattle.iris_cache.specs.Resident.{Resident, held}
-use Rattle.iris_cache.specs.Drafted.{Drafted, drafted, seen, known_by, there_by}
+use Rattle.iris_cache.specs.Resident.{Resident}
+use Rattle.iris_cache.specs.Drafted.{Drafted, drafted, seen}
 use Rattle.iris_cache.specs.Pictures.{IsLike, Holds, BodyHolds, parent_after}
 use Rattle.iris_dirtree.specs.Rows.{Row, entries, IsCountable}
 use Rattle.iris_dirtree.specs.Ways.{before}
@@ -27,7 +27,6 @@ use Rattle.iris_dirtree.proofs.Sees.{Sees}
 use Rattle.iris_dirtree.proofs.Likes.{Placed, Roof, above_less, above_more, top_parent}
 use Rattle.iris_dirtree.proofs.Halving.{no_snoc}
 use Rattle.iris_dirtree.proofs.Insertions.{Built}
-use Rattle.iris_dirtree.proofs.Owned.{seen_same}
 use Rattle.iris_dirtree.proofs.There.{never_none}
 
 -- ---- what a plan begins with
@@ -92,15 +91,6 @@ module _ (old : Shown) (c : Resident) (known_last : Name → Type 0) (e : Drafte
   stays_fit home Empty h = tt
   stays_fit home (Over y l m) h =
       ((λ none. elim h.0 [ inl w ↦ w | inr k ↦ absurd (never_none (seen e c (entry_name y)) (all (entry_name y) k) none) ]), stays_fit home l h.1, stays_fit home m h.2)
-
--- what was seen stays so
-pub stays_seen : (d e : Drafted) (c : Resident) → OnlyEntries d e → (n : Name) → IsSome (seen d c n) → IsSome (seen e c n)
-stays_seen d e c only n h =
-    let P : Option Node → Type 0 = λ o. IsSome o in
-    elim (only n) [
-      | inl s ↦ subst P (sym (seen_same d e c n s)) h
-      | inr r ↦ subst P (sym (ap (λ o. there_by (known_by o (held c n))) r.4)) refl
-    ]
 
 pub only_through : (d e f : Drafted) → OnlyEntries d e → OnlyEntries e f → OnlyEntries d f
 only_through d e f h k n =

@@ -38,9 +38,9 @@ use Rattle.iris_dirtree.proofs.Fitting.{like_row_node, row_node_id, between_hash
 use Rattle.iris_dirtree.proofs.Walks.{crumbs_there}
 use Rattle.iris_dirtree.proofs.Halving.{in_low, in_high, over_known}
 use Rattle.iris_dirtree.proofs.Insertions.{in_any, any_in, once_treap, put_fresh, put_has, put_row, put_none, put_is, insert_around, seated, top_beaten, Built, built_low, built_high, built_around, within_around, way_around, blocks_split, over_both, none_inside}
-use Rattle.iris_dirtree.proofs.Grafting.{fits_of, top_seen, leads_of, likes_fit, hang_fit, hash_fit, stays_fit, stays_seen, few_top, halves_of, Grown}
+use Rattle.iris_dirtree.proofs.Grafting.{fits_of, top_seen, leads_of, likes_fit, hang_fit, hash_fit, stays_fit, few_top, halves_of, Grown}
 use Rattle.iris_dirtree.proofs.Downs.{each_map}
-use Rattle.iris_dirtree.proofs.Owned.{seen_same, parent_same, other_name}
+use Rattle.iris_dirtree.proofs.Owned.{seen_same, parent_same, other_name, stays_seen}
 use Rattle.iris_dirtree.proofs.There.{never_none, is_there}
 
 hand_by : (old new : Shown) (d : Drafted) (c : Resident) (i : FileId) (o : Option Change) (w : Option Held) → Sees old new d c → new (name.Entry i) ≡ None → drafted d (name.Entry i) ≡ o → held c (name.Entry i) ≡ w → IsSome (held c (name.Entry i)) ⊎ (old (name.Entry i) ≡ None)

@@ -1,5 +1,5 @@
 -- A node that is seen stands under its own name.
-use Rattle.std.proofs.Common.{◌≡◌, Bool, true, false, cond, Option, Some, None, IsSome, refl, ap, sym, ◌∙◌, subst}
+use Rattle.std.proofs.Common.{◌≡◌, inl, inr, Bool, true, false, cond, Option, Some, None, IsSome, refl, ap, sym, ◌∙◌, subst}
 use Rattle.iris_name.specs.Names.{same_name}
 use Rattle.iris_name.specs.NameLaws.{same_name-true, same_name-refl}
 use Rattle.iris_node.specs.declared.node.Link.{Link}
@@ -18,6 +18,7 @@ use Rattle.iris_cache.specs.declared.draft.Change.{Change}
 use Rattle.iris_cache.specs.Resident.{Resident, held, IsSound}
 use Rattle.iris_cache.specs.Drafted.{Drafted, drafted, seen, known_by, there_by, set_to, IsDraft}
 use Rattle.iris_dirtree.proofs.There.{is_there}
+use Rattle.iris_dirtree.specs.Nodes.{OnlyEntries}
 
 own_by : (d : Drafted) (c : Resident) (n : Name) (k : Node) (o : Option Change) (w : Option Held) → IsDraft d → IsSound c → drafted d n ≡ o → held c n ≡ w → there_by (known_by o w) ≡ Some k → name_of k ≡ n
 own_by d c n k (Some x) w ds cs de he e = ds.own n x k de e
@@ -55,6 +56,15 @@ still_seen d e c p w now off n s = by (same_name p n) refl
     by : (b : Bool) → same_name p n ≡ b → IsSome (seen e c n)
     by true b = subst (λ m. IsSome (seen e c m)) (same_name-true p n b) (is_there (seen e c p) w now)
     by false b = subst IsSome (sym (seen_same d e c n (off n b))) s
+
+-- what was seen stays so
+pub stays_seen : (d e : Drafted) (c : Resident) → OnlyEntries d e → (n : Name) → IsSome (seen d c n) → IsSome (seen e c n)
+stays_seen d e c only n h =
+    let P : Option Node → Type 0 = λ o. IsSome o in
+    elim (only n) [
+      | inl s ↦ subst P (sym (seen_same d e c n s)) h
+      | inr r ↦ subst P (sym (ap (λ o. there_by (known_by o (held c n))) r.4)) refl
+    ]
 
 pub put_seen : (d e : Drafted) (c : Resident) (p : Option Name) (x : EntryFields) → IsPut d e p x → seen e c (name.Entry x.id) ≡ Some (node.Entry x)
 put_seen d e c p x put = ap (λ o. there_by (known_by o (held c (name.Entry x.id)))) (put_at d e p x put)

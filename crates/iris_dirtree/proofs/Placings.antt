@@ -1,5 +1,5 @@
 -- The way down from a root to the block at a place of the walk.
-use Rattle.std.proofs.Common.{◌≡◌, ◌+◌, ◌<◌, inl, inr, ℕ, suc, [], true, false, Option, Some, None, IsSome, nat_lt, ◌-◌, refl, ap, sym, ◌∙◌, subst, arith, length}
+use Rattle.std.proofs.Common.{◌≡◌, ◌+◌, ◌<◌, inl, inr, ℕ, suc, [], Some, None, IsSome, nat_lt, ◌-◌, refl, ap, sym, ◌∙◌, subst, arith, length}
 use Rattle.std.specs.Prelude.{slice_get, if◌then◌else◌}
 use Rattle.std.proofs.lemmas.Bool.{cond-true, cond-false}
 use Rattle.std.proofs.lemmas.Option.{slice_get_past}
@@ -9,7 +9,6 @@ use Rattle.iris_name.specs.declared.name.Name.{Name}
 use Rattle.iris_name.specs.declared.name.Name.TheVariants as name
 use Rattle.iris_name.specs.declared.note.Expect.TheVariants.{Hash}
 use Rattle.iris_node.specs.declared.node.Link.{Link}
-use Rattle.iris_node.specs.declared.node.Node.{Node}
 use Rattle.iris_node.specs.declared.node.Node.TheVariants as node
 use Rattle.iris_node.specs.Fields.{EntryFields, PartFields}
 use Rattle.iris_node.specs.Local.{led, led_by, local, local_of, entry_local}
@@ -20,7 +19,7 @@ use Rattle.iris_node.proofs.Walking.{counted}
 use Rattle.iris_cache.specs.declared.held.Short.{Short}
 use Rattle.iris_cache.specs.declared.held.Short.TheVariants.{Need, NoMemory}
 use Rattle.iris_cache.specs.Resident.{Resident}
-use Rattle.iris_cache.specs.Drafted.{Drafted, seen, known, there_by}
+use Rattle.iris_cache.specs.Drafted.{Drafted, seen, known}
 use Rattle.iris_cache.specs.Pictures.{IsLike}
 use Rattle.iris_cache.proofs.Children.{live-name}
 use Rattle.iris_cache.proofs.Lacking.{unknown}

@@ -7,17 +7,15 @@ use Rattle.iris_name.specs.declared.name.Hash32.{Hash32}
 use Rattle.iris_name.specs.declared.name.Name.{Name}
 use Rattle.iris_name.specs.declared.name.Name.TheVariants as name
 use Rattle.iris_node.specs.declared.node.Body.{Body}
-use Rattle.iris_node.specs.declared.node.Body.TheVariants.{Dir, File as FileBody}
+use Rattle.iris_node.specs.declared.node.Body.TheVariants.{Dir}
 use Rattle.iris_node.specs.declared.node.Link.{Link}
 use Rattle.iris_node.specs.declared.node.Node.{Node}
 use Rattle.iris_node.specs.declared.node.Node.TheVariants as node
 use Rattle.iris_node.specs.Fields.{EntryFields}
-use Rattle.iris_node.specs.Local.{local, entry_local}
 use Rattle.iris_node.specs.Trees.{Shown}
 use Rattle.iris_node.specs.Unfolded.{Unfolded, Absent, blocks, id_of}
 use Rattle.iris_shape.specs.Treap.{Treap, treap, rows, without, Every}
 use Rattle.iris_shape.proofs.Treaps.{every_of, rows_treap}
-use Rattle.iris_cache.specs.declared.held.Held.{Held}
 use Rattle.iris_cache.specs.declared.draft.Change.{Change}
 use Rattle.iris_cache.specs.Resident.{Resident, held}
 use Rattle.iris_cache.specs.Drafted.{Drafted, drafted, seen, known_by, there_by, set_to, taken_away}
@@ -26,9 +24,8 @@ use Rattle.iris_dirtree.specs.declared.removing.Crumb.{Crumb}
 use Rattle.iris_dirtree.specs.Descents.{IsAmong, FoundRow}
 use Rattle.iris_dirtree.specs.Hands.{IsRowNode, HoldsTrue}
 use Rattle.iris_dirtree.specs.Needs.{Listed}
-use Rattle.iris_dirtree.specs.Nodes.{OnlyEntries}
 use Rattle.iris_dirtree.specs.Planted.{IsRowName, Planted, topped, with_top}
-use Rattle.iris_dirtree.specs.Rows.{Row, Content, Directory, File, HasRows, IsCountable, entry_of, entries, row_entry, up}
+use Rattle.iris_dirtree.specs.Rows.{Row, HasRows, IsCountable, entries, row_entry, up}
 use Rattle.iris_dirtree.specs.Steps.{entry_name, WasHash, Leads, Seated, Outside, Rising}
 use Rattle.iris_dirtree.specs.Ways.{Any, is_named}
 use Rattle.iris_dirtree.proofs.Begins.{Holder, dir_apart}
@@ -40,6 +37,7 @@ use Rattle.iris_dirtree.proofs.Sees.{Sees, sees_drafts, seen_resident}
 use Rattle.iris_dirtree.proofs.Withouts.{among_each, gone_one, only, any_without, apart_without, is_it, named_parts, outside_none, outside_not, any_named}
 use Rattle.iris_dirtree.proofs.Owned.{seen_same, parent_same}
 use Rattle.iris_dirtree.proofs.There.{is_there}
+use Rattle.iris_dirtree.proofs.Fitting.{like_between}
 
 -- ---- one name changed
 
@@ -67,24 +65,10 @@ frame_apart d e k m h off = by (same_name k m) refl
 pub made_stays : (d e : Drafted) (c : Resident) (k : Name) (v : Option Change) (m : Name) → IsMade d e k v → m ≢ k → IsSome (seen d c m) → IsSome (seen e c m)
 made_stays d e c k v m h off there = there_same (seen e c m) (seen d c m) (seen_same d e c m (made_apart d e k v m h off)) there
 
-pub only_stays : (d e : Drafted) (c : Resident) (m : Name) → OnlyEntries d e → IsSome (seen d c m) → IsSome (seen e c m)
-only_stays d e c m h there = by (h m)
-  where
-    by : (drafted e m ≡ drafted d m) ⊎ ((id : FileId) × (x : EntryFields) × (p : Option Name) × (m ≡ name.Entry id) × (drafted e m ≡ Some (set_to p (node.Entry x)))) → IsSome (seen e c m)
-    by (inl s) = there_same (seen e c m) (seen d c m) (seen_same d e c m s) there
-    by (inr g) = is_there (seen e c m) (node.Entry g.1) (ap (λ o. there_by (known_by o (held c m))) g.4)
-
 -- ---- a row's node by itself
 
-row_node_by : (id : ℕ) (label : List ℕ) (v : Content) (l m : Unfolded) (e : EntryFields) (b : Body) → local (entry_of id label v l m) ≡ Some (entry_local e b)
-    → local (entry_of id label v Absent Absent) ≡ Some (entry_local (record { id = e.id; name = e.name; left = None; right = None; body = e.body }) b)
-row_node_by id label (Directory inside) l m e (Dir top) h = cc
-row_node_by id label (Directory inside) l m e (FileBody size counter versions) h = cc
-row_node_by id label (File s k v) l m e (Dir top) h = cc
-row_node_by id label (File s k v) l m e (FileBody size counter versions) h = cc
-
 pub row_node : (y : Row) (l m : Unfolded) (e : EntryFields) → IsLike (Some (row_entry y l m)) (node.Entry e) → IsRowNode y e
-row_node y l m e h = row_node_by y.id y.name y.content l m e e.body h
+row_node y l m e h = like_between y l m Absent Absent e None None h refl refl
 
 top_holds : (old : Shown) (c : Resident) (u : Treap Row) (z : EntryFields) (top kept : Option Link) (m : Name) (h : Hash32) → Leads old c top u → z.body ≡ Dir kept → ((m : Name) (h : Hash32) → Holds (node.Entry z) m h → WasHash old c m h)
     → Holds (node.Entry (with_top top z)) m h → WasHash old c m h

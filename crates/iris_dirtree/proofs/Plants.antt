@@ -23,7 +23,7 @@ use Rattle.iris_dirtree.specs.Descents.{Ended}
 use Rattle.iris_dirtree.specs.Nodes.{IsPut}
 use Rattle.iris_dirtree.specs.Planted.{IsRowName, Likes, Hang, Stays}
 use Rattle.iris_dirtree.specs.Rows.{Row, entries, row_entry}
-use Rattle.iris_dirtree.specs.Steps.{Step, under, entry_name, above, crumb_above, WasHash, Seat, Seated, Leads, AreCrumbs, Outside, Once, Rising}
+use Rattle.iris_dirtree.specs.Steps.{Fork, under, entry_name, above, crumb_above, WasHash, Seat, Seated, Leads, AreCrumbs, Outside, Once, Rising}
 use Rattle.iris_dirtree.proofs.Climbs.{put_stays, seated_same, crumbs_above, above_seen}
 use Rattle.iris_dirtree.proofs.Likes.{like_row, like_part, leads_over, leads_empty}
 use Rattle.iris_dirtree.proofs.Steps.{once_under}
@@ -40,12 +40,12 @@ module _ (old : Shown) (c : Resident) (t : Treap Row) where
       ((k : Link) → (x : EntryFields) → end ≡ Some k → seen d c (name.Entry k.id) ≡ Some (node.Entry x) → IsPut d e (Some (name.Entry p)) x)
       × ((k : Link) → end ≡ Some k → seen d c (name.Entry k.id) ≡ None → e ≡ d) × (end ≡ None → e ≡ d)
 
-  same_rising : (d e : Drafted) (p : Name) (u : Treap Row) (es : List Crumb) (end : Option Link) (front : List Step) (w : Treap Row) → u ≡ under front w → AreCrumbs old c t d front es → Leads old c end w → Seated old c t d (above p front) w → e ≡ d → Rising old c t d e p u es end
+  same_rising : (d e : Drafted) (p : Name) (u : Treap Row) (es : List Crumb) (end : Option Link) (front : List Fork) (w : Treap Row) → u ≡ under front w → AreCrumbs old c t d front es → Leads old c end w → Seated old c t d (above p front) w → e ≡ d → Rising old c t d e p u es end
   same_rising d e p u es end front w is crumbs leads seated same =
       let R : Drafted → Type 0 = λ e. Rising old c t d e p u es end in
       subst R (sym same) (record { front = front; done = w; is = is; crumbs = crumbs; leads = leads; seated = seated; off = λ n o. refl; touched = λ n. inl refl; stays = λ n h. h })
 
-  put_rising : (d e : Drafted) (dir : FileId) (u : Treap Row) (es : List Crumb) (end : Option Link) (front : List Step) (q : Name) (y : Row) (l m : Treap Row) (x : EntryFields) → u ≡ under front (Over y l m) → AreCrumbs old c t d front es → Leads old c end (Over y l m)
+  put_rising : (d e : Drafted) (dir : FileId) (u : Treap Row) (es : List Crumb) (end : Option Link) (front : List Fork) (q : Name) (y : Row) (l m : Treap Row) (x : EntryFields) → u ≡ under front (Over y l m) → AreCrumbs old c t d front es → Leads old c end (Over y l m)
       → Seated old c t d q (Over y l m) → Once u → IsSome (seen d c (name.Entry dir)) → seen d c (entry_name y) ≡ Some (node.Entry x) → IsPut d e (Some (name.Entry (crumb_above dir es))) x → Rising old c t d e (name.Entry dir) u es end
   put_rising d e dir u es end front q y l m x is crumbs leads seated once there at put =
       let p = name.Entry dir in
@@ -91,7 +91,7 @@ module _ (old : Shown) (c : Resident) (t : Treap Row) where
           differ : {b : Bool} → b ≡ true → b ≡ false → ⊥
           differ a b = cc
 
-  moved_rising : (d e : Drafted) (dir : FileId) (u : Treap Row) (es : List Crumb) (end : Option Link) (front : List Step) (q : Name) (y : Row) (l m : Treap Row) (k : Link) (o : Option Node) → u ≡ under front (Over y l m) → AreCrumbs old c t d front es → Leads old c end (Over y l m)
+  moved_rising : (d e : Drafted) (dir : FileId) (u : Treap Row) (es : List Crumb) (end : Option Link) (front : List Fork) (q : Name) (y : Row) (l m : Treap Row) (k : Link) (o : Option Node) → u ≡ under front (Over y l m) → AreCrumbs old c t d front es → Leads old c end (Over y l m)
       → Seated old c t d q (Over y l m) → Once u → IsSome (seen d c (name.Entry dir)) → end ≡ Some k → name.Entry k.id ≡ entry_name y → seen d c (entry_name y) ≡ o → IsMoved d e (crumb_above dir es) end → Rising old c t d e (name.Entry dir) u es end
   moved_rising d e dir u es end front q y l m k None is crumbs leads seated once there link id at moved =
       let none : seen d c (name.Entry k.id) ≡ None = ap (seen d c) id ∙ at in
@@ -128,7 +128,7 @@ module _ (old : Shown) (c : Resident) (t : Treap Row) where
   pub risen : (d e : Drafted) (p : Name) (u : Treap Row) (link : Option Link) → Rising old c t d e p u [] link → Risen d e p u link
   risen d e p u link r = by r.front r.is r.crumbs r.seated
     where
-      by : (xs : List Step) → u ≡ under xs r.done → AreCrumbs old c t d xs [] → Seated old c t e (above p xs) r.done → Risen d e p u link
+      by : (xs : List Fork) → u ≡ under xs r.done → AreCrumbs old c t d xs [] → Seated old c t e (above p xs) r.done → Risen d e p u link
       by [] is k s =
           let L : Treap Row → Type 0 = λ w. Leads old c link w in
           let S : Treap Row → Type 0 = λ w. Seated old c t e p w in

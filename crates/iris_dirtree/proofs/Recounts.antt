@@ -28,7 +28,7 @@ use Rattle.iris_dirtree.specs.Lags.{Lags, IsUpFrom}
 use Rattle.iris_dirtree.specs.Planted.{IsOver, next, far}
 use Rattle.iris_dirtree.specs.Rows.{Row, IsCountable}
 use Rattle.iris_dirtree.proofs.Sizes.{never_over, none_over, over_parent}
-use Rattle.iris_dirtree.proofs.There.{got, is_there, never_none, one_of}
+use Rattle.iris_dirtree.proofs.There.{got, is_there, one_of}
 use Rattle.iris_dirtree.proofs.Owned.{still_seen}
 
 -- ---- what is there

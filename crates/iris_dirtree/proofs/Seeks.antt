@@ -20,7 +20,7 @@ use Rattle.iris_dirtree.specs.declared.removing.Crumb.{Crumb}
 use Rattle.iris_dirtree.specs.Needs.{IsWanted}
 use Rattle.iris_dirtree.specs.Nodes.{toward, IsLinkLack}
 use Rattle.iris_dirtree.specs.Rows.{Row, entries}
-use Rattle.iris_dirtree.specs.Steps.{Step, over, under, entry_name, above, WasHash, IsCrumb}
+use Rattle.iris_dirtree.specs.Steps.{Fork, forked, under, entry_name, above, WasHash, IsCrumb}
 use Rattle.iris_dirtree.specs.Descents.{Stands, IsAmong, met_near, taken, Seeking, FoundRow, Joining, Ended, IsStop, Seeks, Joins}
 use Rattle.iris_dirtree.specs.Ways.{Any, before, is_named}
 use Rattle.iris_dirtree.proofs.Downs.{any_left, any_right}
@@ -74,7 +74,7 @@ module _ (old new : Shown) (c : Resident) (t : Treap Row) (d : Drafted) where
       }
 
   -- a crumb of the row on top
-  abbrev stepped : Row → Treap Row → Treap Row → Bool → Step
+  abbrev stepped : Row → Treap Row → Treap Row → Bool → Fork
   stepped y l m b = record { row = y; other = cond b l m; right = b }
 
   made_crumb : (q : Name) (k : Link) (y : Row) (l m : Treap Row) (e : EntryFields) (b : Bool) → Stands old new c t d q (Some k) (Over y l m) → seen d c (entry_name y) ≡ Some (node.Entry e) → WasHash old c (entry_name y) k.hash
@@ -84,7 +84,7 @@ module _ (old new : Shown) (c : Resident) (t : Treap Row) (d : Drafted) where
 
   -- ---- to the row of a name
 
-  taken_past : (up : Row → Row → Bool) (n : List ℕ) (y : Row) (l m : Treap Row) (b : Bool) → is_named n y ≡ false → before n y ≡ b → taken up n (Over y l m) ≡ over (stepped y l m b) (taken up n (cond b m l))
+  taken_past : (up : Row → Row → Bool) (n : List ℕ) (y : Row) (l m : Treap Row) (b : Bool) → is_named n y ≡ false → before n y ≡ b → taken up n (Over y l m) ≡ forked (stepped y l m b) (taken up n (cond b m l))
   taken_past up n y l m true e f =
       cond-false (is_named n y) (merge up l m) (cond (before n y) (Over y l (taken up n m)) (Over y (taken up n l) m)) e ∙ cond-true (before n y) (Over y l (taken up n m)) (Over y (taken up n l) m) f
   taken_past up n y l m false e f =

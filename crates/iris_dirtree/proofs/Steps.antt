@@ -1,33 +1,28 @@
 -- Ways down a treap with a treap at their end, and what a draft makes of them.
-use Rattle.std.proofs.Common.{◌≡◌, ◌≢◌, ◌++◌, ◌-◌, ◌≤◌, ◌<◌, ◌^◌, ℕ, suc, Bool, true, false, cond, List, [], ◌∷◌, Option, Some, None, refl, ap, sym, ◌∙◌, subst, arith, length, slice_get}
+use Rattle.std.proofs.Common.{◌≡◌, ◌≢◌, ◌++◌, ◌-◌, ◌≤◌, ℕ, suc, Bool, true, false, cond, List, [], ◌∷◌, Option, Some, None, refl, ap, sym, ◌∙◌, arith, length, slice_get}
 use Rattle.iris_name.specs.declared.name.FileId.{FileId}
-use Rattle.iris_name.specs.declared.name.Hash32.{Hash32}
 use Rattle.iris_name.specs.declared.name.Name.{Name}
-use Rattle.iris_node.specs.declared.node.Body.{Body}
-use Rattle.iris_node.specs.declared.node.Body.TheVariants.{Dir, File as FileBody}
 use Rattle.iris_node.specs.declared.node.Link.{Link}
 use Rattle.iris_node.specs.declared.node.Node.TheVariants as node
 use Rattle.iris_node.specs.Fields.{EntryFields}
-use Rattle.iris_node.specs.Local.{led, led_by, local, entry_local}
+use Rattle.iris_node.specs.Local.{led, led_by}
 use Rattle.iris_node.specs.Unfolded.{Unfolded, blocks}
 use Rattle.iris_shape.specs.Treap.{Treap, Empty, Over, Every}
 use Rattle.iris_shape.proofs.Treaps.{every_map}
 use Rattle.iris_cache.specs.Pictures.{IsLike}
 use Rattle.iris_dirtree.specs.declared.removing.Crumb.{Crumb}
-use Rattle.iris_dirtree.specs.Nodes.{turned, LinksTo}
-use Rattle.iris_dirtree.specs.Rows.{Row, Content, Directory, File, entry_of, entries, row_entry}
-use Rattle.iris_dirtree.specs.Steps.{Step, over, under, entry_name, above, crumb_above, AreNamed, Outside, Once}
-use Rattle.iris_dirtree.proofs.Blocks.{like_blocks}
-use Rattle.iris_dirtree.proofs.Likes.{like_row}
-use Rattle.iris_dirtree.proofs.Fitting.{led_entry}
+use Rattle.iris_dirtree.specs.Nodes.{turned}
+use Rattle.iris_dirtree.specs.Rows.{Row, Content, Directory, File, entry_of, entries}
+use Rattle.iris_dirtree.specs.Steps.{Fork, forked, under, entry_name, above, crumb_above, AreNamed, Outside, Once}
+use Rattle.iris_dirtree.proofs.Fitting.{like_turned}
 
 -- ---- the end of a way
 
-pub under_more : (xs : List Step) (x : Step) (w : Treap Row) → under (xs ++ x ∷ []) w ≡ under xs (over x w)
+pub under_more : (xs : List Fork) (x : Fork) (w : Treap Row) → under (xs ++ x ∷ []) w ≡ under xs (forked x w)
 under_more [] x w = refl
-under_more (y ∷ xs) x w = ap (over y) (under_more xs x w)
+under_more (y ∷ xs) x w = ap (forked y) (under_more xs x w)
 
-pub above_more : (p : Name) (xs : List Step) (x : Step) → above p (xs ++ x ∷ []) ≡ entry_name x.row
+pub above_more : (p : Name) (xs : List Fork) (x : Fork) → above p (xs ++ x ∷ []) ≡ entry_name x.row
 above_more p [] x = refl
 above_more p (y ∷ xs) x = above_more (entry_name y.row) xs x
 
@@ -54,40 +49,18 @@ named_last (f ∷ es) e h = let r = named_last es e h.1 in ((h.0, r.0), r.1)
 
 -- ---- a node with a turned link
 
-turn_by : (right : Bool) (id : ℕ) (label : List ℕ) (c : Content) (l m v w : Unfolded) (e : EntryFields) (b : Body) (k : Option Link)
-    → local (entry_of id label c l m) ≡ Some (entry_local e b) → led_by k ≡ led w → cond right l m ≡ v
-    → local (entry_of id label c (cond right v w) (cond right w v)) ≡ Some (entry_local (turned right k e) b)
-turn_by true id label (Directory inside) l m v w e (Dir top) k h i g = cc
-turn_by true id label (Directory inside) l m v w e (FileBody size counter versions) k h i g = cc
-turn_by true id label (File s n x) l m v w e (Dir top) k h i g = cc
-turn_by true id label (File s n x) l m v w e (FileBody size counter versions) k h i g = cc
-turn_by false id label (Directory inside) l m v w e (Dir top) k h i g = cc
-turn_by false id label (Directory inside) l m v w e (FileBody size counter versions) k h i g = cc
-turn_by false id label (File s n x) l m v w e (Dir top) k h i g = cc
-turn_by false id label (File s n x) l m v w e (FileBody size counter versions) k h i g = cc
-
 pub turned_id : (right : Bool) (k : Option Link) (e : EntryFields) → (turned right k e).id ≡ e.id
 turned_id true k e = refl
 turned_id false k e = refl
 
 -- a node with a turned link is like its row over what that leads to
-pub turned_like : (x : Step) (v w : Treap Row) (e : EntryFields) (k : Option Link) → IsLike (Some (entries (over x v))) (node.Entry e) → led_by k ≡ led (entries w)
-    → IsLike (Some (entries (over x w))) (node.Entry (turned x.right k e))
+pub turned_like : (x : Fork) (v w : Treap Row) (e : EntryFields) (k : Option Link) → IsLike (Some (entries (forked x v))) (node.Entry e) → led_by k ≡ led (entries w)
+    → IsLike (Some (entries (forked x w))) (node.Entry (turned x.right k e))
 turned_like x v w e k h i = by x.right h
   where
     by : (r : Bool) → IsLike (Some (entries (cond r (Over x.row x.other v) (Over x.row v x.other)))) (node.Entry e) → IsLike (Some (entries (cond r (Over x.row x.other w) (Over x.row w x.other)))) (node.Entry (turned r k e))
-    by true g = turn_by true x.row.id x.row.name x.row.content (entries x.other) (entries v) (entries x.other) (entries w) e e.body k g i refl
-    by false g = turn_by false x.row.id x.row.name x.row.content (entries v) (entries x.other) (entries x.other) (entries w) e e.body k g i refl
-
--- a link made to a node that is like a row's entry leads there
-pub made_leads : (y : Row) (l m : Unfolded) (e : EntryFields) (h : Hash32) (k : Link) → IsLike (Some (row_entry y l m)) (node.Entry e) → blocks (row_entry y l m) < 2 ^ 64 → LinksTo e h k → led_by (Some k) ≡ led (row_entry y l m)
-made_leads y l m e h k like few to =
-    let b = like_blocks (row_entry y l m) e e.body like in
-    let i = like_row y l m e like in
-    let n : k.blocks ≡ blocks (row_entry y l m) = to.blocks (subst (λ n. n < 2 ^ 64) (sym b) few) ∙ b in
-    let j : k.id.0 ≡ y.id = ap (λ (f : FileId). f.0) to.id ∙ i.id_is in
-    let r : led_by (Some k) ≡ Some (record { id = y.id; blocks = blocks (row_entry y l m) }) = cc in
-    r ∙ sym (led_entry y l m)
+    by true g = like_turned x.row (entries x.other) (entries v) (entries w) e true k g i
+    by false g = like_turned x.row (entries v) (entries x.other) (entries w) e false k g i
 
 -- ---- counts below a way
 
@@ -95,14 +68,14 @@ blocks_sides : (id : ℕ) (label : List ℕ) (c : Content) (l m : Unfolded) → 
 blocks_sides id label (Directory inside) l m = (omega arith, omega arith)
 blocks_sides id label (File size counter versions) l m = (omega arith, omega arith)
 
-over_blocks : (x : Step) (w : Treap Row) → blocks (entries w) ≤ blocks (entries (over x w))
+over_blocks : (x : Fork) (w : Treap Row) → blocks (entries w) ≤ blocks (entries (forked x w))
 over_blocks x w = by x.right
   where
     by : (r : Bool) → blocks (entries w) ≤ blocks (entries (cond r (Over x.row x.other w) (Over x.row w x.other)))
     by true = (blocks_sides x.row.id x.row.name x.row.content (entries x.other) (entries w)).1
     by false = (blocks_sides x.row.id x.row.name x.row.content (entries w) (entries x.other)).0
 
-pub under_blocks : (xs : List Step) (w : Treap Row) → blocks (entries w) ≤ blocks (entries (under xs w))
+pub under_blocks : (xs : List Fork) (w : Treap Row) → blocks (entries w) ≤ blocks (entries (under xs w))
 under_blocks [] w = omega arith
 under_blocks (x ∷ xs) w = let a = under_blocks xs w in let b = over_blocks x (under xs w) in omega arith
 
@@ -117,25 +90,25 @@ apart_swap a (Over y l m) h = (
 )
 
 -- what is apart at a step
-pub record Apart (x : Step) (w : Treap Row) : Type 0 where
+pub record Apart (x : Fork) (w : Treap Row) : Type 0 where
   pub row : Outside (entry_name x.row) w
   pub row_other : Outside (entry_name x.row) x.other
   pub other : Every (λ z. Outside (entry_name z) w) x.other
   pub below : Once w
 
-pub once_over : (x : Step) (w : Treap Row) → Once (over x w) → Apart x w
+pub once_over : (x : Fork) (w : Treap Row) → Once (forked x w) → Apart x w
 once_over x w h = by x.right h
   where
     by : (r : Bool) → Once (cond r (Over x.row x.other w) (Over x.row w x.other)) → Apart x w
     by true g = record { row = g.1; row_other = g.0; other = g.2; below = g.4 }
     by false g = record { row = g.0; row_other = g.1; other = apart_swap w x.other g.2; below = g.3 }
 
-pub once_under : (xs : List Step) (w : Treap Row) → Once (under xs w) → Once w
+pub once_under : (xs : List Fork) (w : Treap Row) → Once (under xs w) → Once w
 once_under [] w h = h
 once_under (x ∷ xs) w h = once_under xs w (once_over x (under xs w) h).below
 
 -- a name outside a step's treap is outside of what is below it
-pub outside_over : (n : Name) (x : Step) (w : Treap Row) → Outside n (over x w) → (n ≢ entry_name x.row) × Outside n x.other × Outside n w
+pub outside_over : (n : Name) (x : Fork) (w : Treap Row) → Outside n (forked x w) → (n ≢ entry_name x.row) × Outside n x.other × Outside n w
 outside_over n x w h = by x.right h
   where
     by : (r : Bool) → Outside n (cond r (Over x.row x.other w) (Over x.row w x.other)) → (n ≢ entry_name x.row) × Outside n x.other × Outside n w

@@ -17,7 +17,7 @@ use Rattle.iris_cache.specs.Pictures.{Holds, IsLike}
 use Rattle.iris_dirtree.specs.declared.removing.Crumb.{Crumb}
 use Rattle.iris_dirtree.specs.Needs.{IsWanted}
 use Rattle.iris_dirtree.specs.Rows.{Row, entries, row_entry}
-use Rattle.iris_dirtree.specs.Steps.{Step, under, entry_name, above, WasHash, Seated, Leads, AreCrumbs}
+use Rattle.iris_dirtree.specs.Steps.{Fork, under, entry_name, above, WasHash, Seated, Leads, AreCrumbs}
 use Rattle.iris_dirtree.specs.Ways.{Any, before, is_named}
 
 -- where the entry to which a link leads is missing, it is wanted
@@ -53,7 +53,7 @@ taken up n t = remove up (before n) (is_named n) t
 
 -- On the way down to the row of a name, crumbs were kept of the rows met, and a link leads on.
 pub record Seeking (old new : Shown) (c : Resident) (t : Treap Row) (d : Drafted) (p : Name) (up : Row → Row → Bool) (n : List ℕ) (kept : List Crumb) (link : Option Link) : Type 0 where
-  pub front : List Step
+  pub front : List Fork
   pub rest : Treap Row
   pub is : taken up n t ≡ under front (taken up n rest)
   pub crumbs : AreCrumbs old c t d front kept
@@ -63,7 +63,7 @@ pub record Seeking (old new : Shown) (c : Resident) (t : Treap Row) (d : Drafted
 
 -- The row of the name is found: what is left is to join the two treaps beside it.
 pub record FoundRow (old new : Shown) (c : Resident) (t : Treap Row) (d : Drafted) (up : Row → Row → Bool) (n : List ℕ) (kept : List Crumb) (e : EntryFields) : Type 0 where
-  pub front : List Step
+  pub front : List Fork
   pub row : Row
   pub less : Treap Row
   pub more : Treap Row
@@ -81,7 +81,7 @@ pub record FoundRow (old new : Shown) (c : Resident) (t : Treap Row) (d : Drafte
 
 -- On the way down two treaps that are to be joined to the treap u, crumbs were kept of the rows met, and links lead on.
 pub record Joining (old new : Shown) (c : Resident) (t : Treap Row) (d : Drafted) (up : Row → Row → Bool) (met : List Row) (u : Treap Row) (kept : List Crumb) (less more : Option Link) : Type 0 where
-  pub front : List Step
+  pub front : List Fork
   pub a : Treap Row
   pub b : Treap Row
   pub q : Name
@@ -95,7 +95,7 @@ pub record Joining (old new : Shown) (c : Resident) (t : Treap Row) (d : Drafted
 
 -- A link leads to what is left at the end, as a whole.
 pub record Ended (old : Shown) (c : Resident) (t : Treap Row) (d : Drafted) (u : Treap Row) (kept : List Crumb) (link : Option Link) : Type 0 where
-  pub front : List Step
+  pub front : List Fork
   pub rest : Treap Row
   pub q : Name
   pub is : u ≡ under front rest

@@ -1,5 +1,5 @@
 -- A row put into a treap in place: the way down to its seat, the split along its name below, and the way up.
-use Rattle.std.specs.Prelude.{◌≡◌, ◌⊎◌, ◌++◌, ℕ, Bool, true, false, cond, List, [], ◌∷◌, Option, Some}
+use Rattle.std.specs.Prelude.{◌≡◌, ◌⊎◌, ◌++◌, ℕ, true, false, cond, List, [], ◌∷◌, Option, Some}
 use Rattle.iris_name.specs.declared.name.FileId.{FileId}
 use Rattle.iris_name.specs.declared.name.Hash32.{Hash32}
 use Rattle.iris_name.specs.declared.name.Name.{Name}
@@ -7,31 +7,17 @@ use Rattle.iris_name.specs.declared.name.Name.TheVariants as name
 use Rattle.iris_node.specs.declared.node.Link.{Link}
 use Rattle.iris_node.specs.declared.node.Node.{Node}
 use Rattle.iris_node.specs.declared.node.Node.TheVariants as node
-use Rattle.iris_node.specs.Local.{led, led_by}
 use Rattle.iris_node.specs.Trees.{Shown}
-use Rattle.iris_node.specs.Unfolded.{Unfolded, id_of}
+use Rattle.iris_node.specs.Unfolded.{Unfolded}
 use Rattle.iris_shape.specs.Order.{beats}
 use Rattle.iris_shape.specs.Treap.{Treap, Empty, Over, Each}
-use Rattle.iris_cache.specs.Resident.{Resident, held}
+use Rattle.iris_cache.specs.Resident.{Resident}
 use Rattle.iris_cache.specs.Drafted.{Drafted, seen}
-use Rattle.iris_cache.specs.Pictures.{Holds, IsHashOf, IsLike, IsSettled, LinkHolds, parent_after}
+use Rattle.iris_cache.specs.Pictures.{Holds, IsLike, parent_after}
 use Rattle.iris_dirtree.specs.declared.inserting.Crumb.{Crumb}
 use Rattle.iris_dirtree.specs.Rows.{Row, entries, row_entry}
+pub use Rattle.iris_dirtree.specs.Steps.{Fork, entry_name, forked, WasHash, Leads}
 use Rattle.iris_dirtree.specs.Ways.{before, is_named}
-
--- a row met on a way down, what lies on its other side, and whether the way goes on to greater names
-pub record Fork : Type 0 where
-  pub row : Row
-  pub other : Treap Row
-  pub right : Bool
-
--- the name of a row's entry
-abbrev pub entry_name : Row → Name
-entry_name r = name.Entry (id_of r.id)
-
--- the row of a fork over what the way leads to
-abbrev pub forked : Fork → Treap Row → Treap Row
-forked s t = cond s.right (Over s.row s.other t) (Over s.row t s.other)
 
 -- the whole treap around the end of a way, given from its end up
 abbrev pub around : List Fork → Treap Row → Treap Row
@@ -66,10 +52,6 @@ abbrev pub Once : Treap Row → Type 0
 Once Empty = Unit {0}
 Once (Over y l m) = (InRows (entry_name y) l → ⊥) × (InRows (entry_name y) m → ⊥) × ((q : Name) → InRows q l → InRows q m → ⊥) × Once l × Once m
 
--- a hash of a name was its true one before, where the name is absent or settled
-abbrev pub WasHash : Shown → Resident → Name → Hash32 → Type 0
-WasHash old c n h = IsSettled (held c n) → IsHashOf (old n) h
-
 -- what is seen of a name says what the entry says, and hangs from p; `known` are the names that are seen in the end
 pub record Fit (old : Shown) (c : Resident) (known : Name → Type 0) (d : Drafted) (p n : Name) (u : Unfolded) (x : Node) : Type 0 where
   pub like : IsLike (Some u) x
@@ -82,11 +64,6 @@ abbrev pub Fits : Shown → Resident → (Name → Type 0) → Drafted → Name 
 Fits old c known d p Empty = Unit {0}
 Fits old c known d p (Over y l m) =
     ((x : Node) → seen d c (entry_name y) ≡ Some x → Fit old c known d p (entry_name y) (row_entry y (entries l) (entries m)) x) × Fits old c known d (entry_name y) l × Fits old c known d (entry_name y) m
-
--- a link leads to the top of a treap
-pub record Leads (old : Shown) (c : Resident) (link : Option Link) (t : Treap Row) : Type 0 where
-  pub led_is : led_by link ≡ led (entries t)
-  pub hash : (m : Name) (h : Hash32) → LinkHolds link m h → WasHash old c m h
 
 -- a crumb is the seen node of a fork's row, and is to hang from q
 pub record IsCrumb (old : Shown) (c : Resident) (d : Drafted) (q : Name) (s : Fork) (k : Crumb) : Type 0 where

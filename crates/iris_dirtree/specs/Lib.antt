@@ -5,6 +5,7 @@ pub mod Needs
 pub mod Places
 pub mod Planted
 pub mod Nodes
+pub mod Steps
 pub mod Grafts
 pub mod Splits
 pub mod Counts
@@ -14,6 +15,5 @@ pub mod Reached
 pub mod Piles
 pub mod Turns
 pub mod Below
-pub mod Steps
 pub mod Descents
 pub mod Laws

@@ -19,26 +19,26 @@ use Rattle.iris_dirtree.specs.Planted.{IsWithin}
 use Rattle.iris_dirtree.specs.Rows.{Row, entries, row_entry}
 
 -- a row met on a way down, what lies on its other side, and whether the way goes on to greater names
-pub record Step : Type 0 where
+pub record Fork : Type 0 where
   pub row : Row
   pub other : Treap Row
   pub right : Bool
 
--- a treap below a step
-abbrev pub over : Step → Treap Row → Treap Row
-over x t = cond x.right (Over x.row x.other t) (Over x.row t x.other)
+-- the row of a fork over what the way leads to
+abbrev pub forked : Fork → Treap Row → Treap Row
+forked x t = cond x.right (Over x.row x.other t) (Over x.row t x.other)
 
 -- a treap below a way
-abbrev pub under : List Step → Treap Row → Treap Row
+abbrev pub under : List Fork → Treap Row → Treap Row
 under [] t = t
-under (x ∷ xs) t = over x (under xs t)
+under (x ∷ xs) t = forked x (under xs t)
 
 -- the name of a row's entry
 abbrev pub entry_name : Row → Name
 entry_name r = name.Entry (id_of r.id)
 
 -- the entry above the end of a way from p
-abbrev pub above : Name → List Step → Name
+abbrev pub above : Name → List Fork → Name
 above p [] = p
 above p (x ∷ xs) = above (entry_name x.row) xs
 
@@ -70,17 +70,17 @@ pub record Leads (old : Shown) (c : Resident) (link : Option Link) (t : Treap Ro
   pub led_is : led_by link ≡ led (entries t)
   pub hash : (m : Name) (h : Hash32) → LinkHolds link m h → WasHash old c m h
 
--- a crumb is the seen node of a step's row, with the hash by which it was reached
-pub record IsCrumb (old : Shown) (c : Resident) (t : Treap Row) (d : Drafted) (x : Step) (e : Crumb) : Type 0 where
+-- a crumb is the seen node of a fork's row, with the hash by which it was reached
+pub record IsCrumb (old : Shown) (c : Resident) (t : Treap Row) (d : Drafted) (x : Fork) (e : Crumb) : Type 0 where
   pub side : Treap Row
   pub right : e.right ≡ x.right
   pub sees : seen d c (entry_name x.row) ≡ Some (node.Entry e.node)
-  pub like : IsLike (Some (entries (over x side))) (node.Entry e.node)
+  pub like : IsLike (Some (entries (forked x side))) (node.Entry e.node)
   pub hashes : (m : Name) (h : Hash32) → Holds (node.Entry e.node) m h → WasHash old c m h
   pub reached : WasHash old c (entry_name x.row) e.hash
   pub other : Seated old c t d (entry_name x.row) x.other
 
-abbrev pub AreCrumbs : Shown → Resident → Treap Row → Drafted → List Step → List Crumb → Type 0
+abbrev pub AreCrumbs : Shown → Resident → Treap Row → Drafted → List Fork → List Crumb → Type 0
 AreCrumbs old c t d [] [] = Unit {0}
 AreCrumbs old c t d [] (e ∷ es) = ⊥
 AreCrumbs old c t d (x ∷ xs) [] = ⊥
@@ -101,7 +101,7 @@ Once (Over y l m) = Outside (entry_name y) l × Outside (entry_name y) m × Ever
 
 -- Of a treap u, the end of a way down is set up in a draft and linked to, and the crumbs of the way are left.
 pub record Rising (old : Shown) (c : Resident) (t : Treap Row) (d e : Drafted) (p : Name) (u : Treap Row) (left : List Crumb) (link : Option Link) : Type 0 where
-  pub front : List Step
+  pub front : List Fork
   pub done : Treap Row
   pub is : u ≡ under front done
   pub crumbs : AreCrumbs old c t d front left

@@ -17,11 +17,11 @@ use Rattle.iris_dirtree.specs.Grafts.{Fits, Leads, Reached, WasHash, over}
 use Rattle.iris_dirtree.specs.Splits.{IsKnown, IsSplitWay}
 use Rattle.iris_dirtree.proofs.Fitting.{row_node_id, fits_around}
 use Rattle.iris_dirtree.proofs.Growth.{only_none, only_more}
-use Rattle.iris_dirtree.proofs.Grafting.{only_through, stays_seen, grown_of}
+use Rattle.iris_dirtree.proofs.Grafting.{only_through, grown_of}
 use Rattle.iris_dirtree.proofs.Implanting.{Tables, see, begins, leads_in, splits, growing, grow_start, there_root, built_all, planted, hand_hash}
 use Rattle.iris_dirtree.proofs.Shortages.{short_of, short_below}
 use Rattle.iris_dirtree.proofs.inserting.plant.Goals as goal
-use Rattle.iris_dirtree.proofs.Owned.{put_seen}
+use Rattle.iris_dirtree.proofs.Owned.{put_seen, stays_seen}
 use Rattle.iris_dirtree.proofs.There.{is_there}
 
 pub returns-in_err-above-clause-short : goal.returns-in_err-above-clause-short

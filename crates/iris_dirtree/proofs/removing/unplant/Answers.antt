@@ -21,10 +21,11 @@ use Rattle.iris_dirtree.proofs.Seeks.{found_joining}
 use Rattle.iris_dirtree.proofs.Sees.{sees_drafts}
 use Rattle.iris_dirtree.proofs.Withouts.{taken_without, once_of, distinct_without}
 use Rattle.iris_dirtree.proofs.Plants.{rising_start}
-use Rattle.iris_dirtree.proofs.Planting.{IsMade, planted, row_taken, made_stays, only_stays}
+use Rattle.iris_dirtree.proofs.Planting.{IsMade, planted, row_taken, made_stays}
 use Rattle.iris_dirtree.proofs.removing.unplant.Goals as goal
 use Rattle.iris_dirtree.proofs.removing.unplant.Goals.{In_ok-path}
 use Rattle.iris_dirtree.proofs.There.{is_there}
+use Rattle.iris_dirtree.proofs.Owned.{stays_seen}
 
 -- the row is found
 found : (c : In_ok-path) (old new : Shown) (all : List Row) → Listed c.args.keys.now.order c.args.dir c.args.draft.now c.args.cache.now old new all
@@ -112,4 +113,4 @@ pub returns-clause-stays : goal.returns-clause-stays
 returns-clause-stays c = λ m h off.
     let q = c.args.cache.now in
     made_stays c.set_top.new.draft c.remove.new.self q (name.Entry c.in_ok-path.field-0.row.id) (Some taken_away) m (gone c) off
-    (only_stays c.climb.new.draft c.set_top.new.draft q m c.in_ok-set_top.ensures.entries (c.in_ok-top-2.ensures.stays m (c.in_ok-move_rest.ensures.stays m h)))
+    (stays_seen c.climb.new.draft c.set_top.new.draft q c.in_ok-set_top.ensures.entries m (c.in_ok-top-2.ensures.stays m (c.in_ok-move_rest.ensures.stays m h)))
