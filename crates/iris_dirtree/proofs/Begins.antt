@@ -1,5 +1,5 @@
 -- A plan begins at a directory's topmost row.
-use Rattle.std.proofs.Common.{◌≡◌, ◌≢◌, ◌⊎◌, inl, inr, ◌<◌, ◌≤◌, ℕ, Bool, true, false, List, [], ◌∷◌, Option, Some, None, IsSome, refl, ap, sym, ◌∙◌, subst, arith}
+use Rattle.std.proofs.Common.{◌≡◌, inl, inr, ◌<◌, ℕ, List, [], Option, Some, None, IsSome, refl, ap, sym, ◌∙◌, subst, arith}
 use Rattle.iris_name.specs.declared.name.FileId.{FileId}
 use Rattle.iris_name.specs.declared.name.Hash32.{Hash32}
 use Rattle.iris_name.specs.declared.name.Name.{Name}
@@ -12,25 +12,25 @@ use Rattle.iris_node.specs.declared.node.Node.{Node}
 use Rattle.iris_node.specs.declared.node.Node.TheVariants as node
 use Rattle.iris_node.specs.Fields.{EntryFields}
 use Rattle.iris_node.specs.Local.{led, led_by}
-use Rattle.iris_node.specs.Trees.{Shown, IsTree, IsParent, IsAbove, node_name}
-use Rattle.iris_node.specs.Unfolded.{Unfolded, id_of}
-use Rattle.iris_shape.specs.Treap.{Treap, Empty, Over, treap, near, rows}
+use Rattle.iris_node.specs.Trees.{Shown, IsTree, IsParent, IsAbove}
+use Rattle.iris_node.specs.Unfolded.{Unfolded}
+use Rattle.iris_shape.specs.Treap.{Treap, Empty, Over, treap}
 use Rattle.iris_cache.specs.declared.held.Short.{Short}
 use Rattle.iris_cache.specs.declared.held.Short.TheVariants.{Need, NoMemory}
 use Rattle.iris_cache.specs.Resident.{Resident}
 use Rattle.iris_cache.specs.Drafted.{Drafted, seen, known, there_by}
-use Rattle.iris_cache.specs.Pictures.{Holds, LinkHolds, BodyHolds, IsLike}
+use Rattle.iris_cache.specs.Pictures.{Holds, BodyHolds, IsLike}
 use Rattle.iris_cache.proofs.Lacking.{unknown}
-use Rattle.iris_dirtree.specs.Descents.{IsWantedLink, WantsBelow, Stands, Seeking, IsStop, Seeks}
+use Rattle.iris_dirtree.specs.Descents.{IsWantedLink, WantsBelow, Seeking, IsStop}
 use Rattle.iris_dirtree.specs.Found.{entry_in, inside, body_inside}
 use Rattle.iris_dirtree.specs.Needs.{Listed, Lacks, IsShort, IsDirectory}
 use Rattle.iris_dirtree.specs.Nodes.{dir_top, body_top, IsTopLack}
 use Rattle.iris_dirtree.specs.Planted.{IsWithin}
 use Rattle.iris_dirtree.specs.Rows.{Row, HasRows, entries, row_entry, up}
-use Rattle.iris_dirtree.specs.Steps.{entry_name, WasHash, Seated, Outside}
-use Rattle.iris_dirtree.specs.Ways.{near_name}
+use Rattle.iris_dirtree.specs.Steps.{entry_name, Seated, Outside}
 use Rattle.iris_dirtree.proofs.Likes.{Placed, placed_rows, top_parent, above_less, above_more, roof, like_row}
-use Rattle.iris_dirtree.proofs.Pasts.{size, smaller}
+use Rattle.iris_dirtree.specs.Reached.{size}
+use Rattle.iris_dirtree.proofs.Sizes.{above_larger}
 use Rattle.iris_dirtree.proofs.Sees.{Sees, sees_drafts, wanted, root_wanted}
 use Rattle.iris_dirtree.proofs.Stands.{led_named, link_holds, top_way, root_name}
 
@@ -154,8 +154,8 @@ some_same a b h = let e : a ≡ b = cc in ap size e
 apart_by : (new : Shown) (n : Name) (u : Unfolded) → new n ≡ Some u → (w : Treap Row) → Placed new w → size (entries w) < size u → Outside n w
 apart_by new n u live Empty h lt = tt
 apart_by new n u live (Over y l m) h lt =
-    let a = smaller (entries (Over y l m)) (entries l) (above_less y.id y.name y.content (entries l) (entries m)) in
-    let b = smaller (entries (Over y l m)) (entries m) (above_more y.id y.name y.content (entries l) (entries m)) in (
+    let a = above_larger (entries (Over y l m)) (entries l) (above_less y.id y.name y.content (entries l) (entries m)) in
+    let b = above_larger (entries (Over y l m)) (entries m) (above_more y.id y.name y.content (entries l) (entries m)) in (
       (λ e. let s = some_same u (entries (Over y l m)) (sym live ∙ ap new e ∙ h.0) in absurd (omega (arith, s, lt))),
       apart_by new n u live l h.1 (omega (arith, a, lt)),
       apart_by new n u live m h.2 (omega (arith, b, lt)),
@@ -164,4 +164,4 @@ apart_by new n u live (Over y l m) h lt =
 pub dir_apart : (new : Shown) (key : List ℕ) (dir : FileId) (all : List Row) → IsTree new → HasRows new key dir all → Outside (name.Entry dir) (treap (up key) all)
 dir_apart new key dir all is has =
     let r = roof new key dir all has in
-    apart_by new (name.Entry dir) r.entry r.live (treap (up key) all) (placed_rows new key dir all is has) (smaller r.entry (entries (treap (up key) all)) r.above)
+    apart_by new (name.Entry dir) r.entry r.live (treap (up key) all) (placed_rows new key dir all is has) (above_larger r.entry (entries (treap (up key) all)) r.above)

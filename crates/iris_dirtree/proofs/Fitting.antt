@@ -1,9 +1,7 @@
 -- Nodes set in their places, and what is seen of a treap's rows while others are set.
-use Rattle.std.proofs.Common.{◌≡◌, ◌≢◌, ◌⊎◌, ◌+◌, ◌≤◌, ◌<◌, ◌^◌, ◌++◌, inl, inr, ℕ, Bool, true, false, cond, List, [], ◌∷◌, Option, Some, None, IsSome, refl, ap, sym, ◌∙◌, subst, arith}
-use Rattle.std.proofs.lemmas.Bool.{cond-true, cond-false}
+use Rattle.std.proofs.Common.{◌≡◌, ◌⊎◌, ◌+◌, ◌≤◌, ◌<◌, ◌^◌, inl, inr, ℕ, Bool, true, false, cond, List, [], ◌∷◌, Option, Some, None, refl, ap, sym, ◌∙◌, subst, arith}
 use Rattle.iris_name.specs.Names.{same_name}
 use Rattle.iris_name.specs.NameLaws.{same_name-true}
-use Rattle.iris_name.specs.declared.name.FileId.{FileId}
 use Rattle.iris_name.specs.declared.name.Hash32.{Hash32}
 use Rattle.iris_name.specs.declared.name.Name.{Name}
 use Rattle.iris_name.specs.declared.name.Name.TheVariants as name
@@ -16,17 +14,15 @@ use Rattle.iris_node.specs.Fields.{EntryFields}
 use Rattle.iris_node.specs.Local.{Lead, led, led_by, local, entry_local}
 use Rattle.iris_node.specs.Trees.{Shown}
 use Rattle.iris_node.specs.Unfolded.{Unfolded, Absent, Folder, Leaf, Even, Split, Stored, id_of, blocks}
-use Rattle.iris_shape.specs.Treap.{Treap, Empty, Over, Each, low, high}
-use Rattle.iris_cache.specs.declared.held.Held.{Held}
-use Rattle.iris_cache.specs.declared.draft.Change.{Change}
+use Rattle.iris_shape.specs.Treap.{Treap, Empty, Over}
 use Rattle.iris_cache.specs.Resident.{Resident, held}
 use Rattle.iris_cache.specs.Drafted.{Drafted, drafted, seen, known_by, there_by, set_to}
-use Rattle.iris_cache.specs.Pictures.{Holds, BodyHolds, IsLike, LinkHolds, parent_after, parent_by}
+use Rattle.iris_cache.specs.Pictures.{Holds, IsLike, LinkHolds, parent_after, parent_by}
 use Rattle.iris_dirtree.specs.Rows.{Row, Content, Directory, File, entries, entry_of, row_entry}
 use Rattle.iris_dirtree.specs.Hands.{IsRowNode, HoldsTrue}
 use Rattle.iris_dirtree.specs.Nodes.{turned, between, link_blocks, own_blocks, node_blocks, LinksTo, IsPut}
-use Rattle.iris_dirtree.specs.Grafts.{Fork, entry_name, forked, around, over, InRows, Once, WasHash, Fit, Fits, Leads}
-use Rattle.iris_dirtree.proofs.Likes.{LikeRow, like_row}
+use Rattle.iris_dirtree.specs.Grafts.{Fork, entry_name, forked, around, over, InRows, Once, WasHash, Fits, Leads}
+use Rattle.iris_dirtree.proofs.Likes.{like_row}
 use Rattle.iris_dirtree.proofs.Owned.{put_at, put_off}
 
 -- ---- counts
@@ -140,8 +136,8 @@ leads_to old c y l m e h k like few links was =
     let n : k.blocks ≡ blocks (row_entry y a b) = links.blocks lt ∙ r.3 in
     let q : Option Lead = Some (record { id = y.id; blocks = blocks (row_entry y a b) }) in
     record {
-        led_is = (λ t. Some (record { id = i t; blocks = n t })) ∙ sym (led_entry y a b);
-        hash = λ z w holds. subst (λ n. WasHash old c n w) (sym (holds.0 ∙ ap (λ j. name.Entry (id_of j)) i)) (subst (WasHash old c (entry_name y)) (sym (holds.1 ∙ links.hash)) was);
+      led_is = (λ t. Some (record { id = i t; blocks = n t })) ∙ sym (led_entry y a b);
+      hash = λ z w holds. subst (λ n. WasHash old c n w) (sym (holds.0 ∙ ap (λ j. name.Entry (id_of j)) i)) (subst (WasHash old c (entry_name y)) (sym (holds.1 ∙ links.hash)) was);
     }
 
 -- ---- what is seen once an entry is set
@@ -194,14 +190,14 @@ module _ (old : Shown) (c : Resident) (known : Name → Type 0) where
       let s = seen_put d e c (Some p) x put in
       let off : (t : Treap Row) → (InRows n t → ⊥) → (q : Name) → InRows q t → drafted e q ≡ drafted d q = λ t out q i. put_other d e (Some p) x q put (λ r. out (subst (λ z. InRows z t) (r ∙ id) i)) in (
         (λ z at.
-          let is : Some (node.Entry x) ≡ Some z = sym s.0 ∙ ap (λ i. seen e c i) id ∙ at in
-          let same : node.Entry x ≡ z = cc in
-          record {
-            like = subst (λ v. IsLike (Some (entries (Over y l m))) v) same like;
-            hangs = ap (λ i. parent_after e c i) (sym id) ∙ s.1;
-            above = there;
-            hashes = λ q h holds. hashes q h (subst (λ v. Holds v q h) (sym same) holds);
-          }),
+            let is : Some (node.Entry x) ≡ Some z = sym s.0 ∙ ap (λ i. seen e c i) id ∙ at in
+            let same : node.Entry x ≡ z = cc in
+            record {
+              like = subst (λ v. IsLike (Some (entries (Over y l m))) v) same like;
+              hangs = ap (λ i. parent_after e c i) (sym id) ∙ s.1;
+              above = there;
+              hashes = λ q h holds. hashes q h (subst (λ v. Holds v q h) (sym same) holds);
+            }),
         fits_frame d e n l (off l out_l) fl,
         fits_frame d e n m (off m out_m) fm,
       )

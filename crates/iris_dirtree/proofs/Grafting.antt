@@ -1,7 +1,5 @@
 -- From a table with a row in hand to one in which it stands in a directory, by the steps of an insertion.
-use Rattle.std.proofs.Common.{◌≡◌, ◌≢◌, ◌⊎◌, ◌+◌, ◌≤◌, ◌<◌, ◌^◌, ◌++◌, inl, inr, ℕ, Bool, true, false, cond, List, [], ◌∷◌, Option, Some, None, IsSome, refl, ap, sym, ◌∙◌, subst, arith}
-use Rattle.iris_name.specs.Names.{same_name}
-use Rattle.iris_name.specs.Hmac.{priority}
+use Rattle.std.proofs.Common.{◌≡◌, ◌⊎◌, ◌<◌, ◌^◌, inl, inr, ℕ, List, [], ◌∷◌, Option, Some, None, IsSome, refl, ap, sym, ◌∙◌, subst, arith}
 use Rattle.iris_name.specs.declared.name.FileId.{FileId}
 use Rattle.iris_name.specs.declared.name.Hash32.{Hash32}
 use Rattle.iris_name.specs.declared.name.Name.{Name}
@@ -13,32 +11,24 @@ use Rattle.iris_node.specs.declared.node.Node.{Node}
 use Rattle.iris_node.specs.declared.node.Node.TheVariants as node
 use Rattle.iris_node.specs.Fields.{EntryFields}
 use Rattle.iris_node.specs.Local.{led, led_by, local, entry_local}
-use Rattle.iris_node.specs.Trees.{Shown, IsTree, IsAbove}
-use Rattle.iris_node.specs.Unfolded.{Unfolded, Folder, id_of, blocks}
-use Rattle.iris_shape.specs.Order.{Rising, Distinct}
-use Rattle.iris_shape.specs.Treap.{Treap, Empty, Over, treap, rows, low, high, insert, put, way, Each}
-use Rattle.iris_shape.proofs.Treaps.{rows_treap}
-use Rattle.iris_cache.specs.declared.held.Held.{Held}
-use Rattle.iris_cache.specs.declared.draft.Change.{Change}
+use Rattle.iris_node.specs.Trees.{Shown, IsAbove}
+use Rattle.iris_node.specs.Unfolded.{Unfolded, Folder, blocks}
+use Rattle.iris_shape.specs.Treap.{Treap, Empty, Over, low, high}
 use Rattle.iris_cache.specs.Resident.{Resident, held}
-use Rattle.iris_cache.specs.Drafted.{Drafted, drafted, known, seen, known_by, there_by, set_to}
-use Rattle.iris_cache.specs.Pictures.{IsLike, Holds, BodyHolds, LinkHolds, IsSettled, parent_after}
-use Rattle.iris_dirtree.specs.declared.inserting.Crumb.{Crumb}
-use Rattle.iris_dirtree.specs.Rows.{Row, row_id, row_name, entries, row_entry, up, Rearranges, IsCountable, HasRows}
-use Rattle.iris_dirtree.specs.Ways.{Any, before, is_named}
-use Rattle.iris_dirtree.specs.Hands.{Holding, IsRowNode, HoldsTrue}
-use Rattle.iris_dirtree.specs.Needs.{ListedInHand}
-use Rattle.iris_dirtree.specs.Planted.{Planted, Likes, Hang, Stays, IsWithin, IsRowName, with_top, topped}
-use Rattle.iris_dirtree.specs.Nodes.{between, dir_top, body_top, LinksTo, IsPut, OnlyEntries}
-use Rattle.iris_dirtree.specs.Grafts.{Fork, entry_name, forked, around, over, low_over, high_over, split_over, InRows, Once, WasHash, Fit, Fits, Leads, AreCrumbs, Passes, Walked, TopBelow, Reached}
-use Rattle.iris_dirtree.specs.Splits.{IsKnown, IsSplitWay, Splits, Halved, Touches, Growing, Grows}
-use Rattle.iris_dirtree.proofs.Sees.{Sees, sees_holding, some_node}
-use Rattle.iris_dirtree.proofs.Likes.{Placed, Roof, roof, placed_rows, above_less, above_more, top_parent}
-use Rattle.iris_dirtree.proofs.Recounts.{got, never_none}
-use Rattle.iris_dirtree.proofs.Fitting.{like_row_node, row_node_id, between_hashes, leads_to, seen_same, seen_put, put_either, fits_set, fits_around, once_around, in_around, few_around}
-use Rattle.iris_dirtree.proofs.Walks.{crumbs_there}
-use Rattle.iris_dirtree.proofs.Halving.{no_snoc, in_low, in_high, over_known}
-use Rattle.iris_dirtree.proofs.Insertions.{in_any, any_in, once_treap, put_fresh, put_has, put_row, put_none, put_is, insert_around, seated, top_beaten, Built, built_within, built_low, built_high, built_around, way_around, blocks_split, over_both, none_inside}
+use Rattle.iris_cache.specs.Drafted.{Drafted, drafted, seen, known_by, there_by}
+use Rattle.iris_cache.specs.Pictures.{IsLike, Holds, BodyHolds, parent_after}
+use Rattle.iris_dirtree.specs.Rows.{Row, entries, IsCountable}
+use Rattle.iris_dirtree.specs.Ways.{before}
+use Rattle.iris_dirtree.specs.Planted.{Likes, Hang, Stays}
+use Rattle.iris_dirtree.specs.Nodes.{dir_top, body_top, OnlyEntries}
+use Rattle.iris_dirtree.specs.Grafts.{Fork, entry_name, around, over, low_over, high_over, split_over, InRows, WasHash, Fits, Leads, AreCrumbs}
+use Rattle.iris_dirtree.specs.Splits.{IsKnown, Halved, Touches, Grows}
+use Rattle.iris_dirtree.proofs.Sees.{Sees}
+use Rattle.iris_dirtree.proofs.Likes.{Placed, Roof, above_less, above_more, top_parent}
+use Rattle.iris_dirtree.proofs.Recounts.{never_none}
+use Rattle.iris_dirtree.proofs.Fitting.{seen_same}
+use Rattle.iris_dirtree.proofs.Halving.{no_snoc}
+use Rattle.iris_dirtree.proofs.Insertions.{Built}
 
 -- ---- what a plan begins with
 
@@ -48,8 +38,8 @@ module _ (old new : Shown) (d : Drafted) (c : Resident) (see : Sees old new d c)
   fits_of p u (Over y l m) live above h =
       let n = entry_name y in (
         (λ x at.
-          let hung = see.parents n p x at (top_parent new p u y l m live above) in
-          record { like = subst (λ o. IsLike o x) h.0 (see.nodes n x at); hangs = hung.0; above = all p hung.1; hashes = λ q w holds. see.hashes n q x w at holds }),
+            let hung = see.parents n p x at (top_parent new p u y l m live above) in
+            record { like = subst (λ o. IsLike o x) h.0 (see.nodes n x at); hangs = hung.0; above = all p hung.1; hashes = λ q w holds. see.hashes n q x w at holds }),
         fits_of n (entries (Over y l m)) l h.0 (above_less y.id y.name y.content (entries l) (entries m)) h.1,
         fits_of n (entries (Over y l m)) m h.0 (above_more y.id y.name y.content (entries l) (entries m)) h.2,
       )
@@ -77,8 +67,8 @@ pub leads_of : (old new : Shown) (d : Drafted) (c : Resident) (dir : FileId) (w 
 leads_of old new d c dir w top see rf ts =
     let like = subst (λ o. IsLike o (node.Entry ts.entry)) (rf.live ∙ ap Some rf.is) (see.nodes (name.Entry dir) (node.Entry ts.entry) ts.is) in
     record {
-        led_is = led_inside dir.0 rf.label rf.less rf.more (entries w) ts.entry ts.entry.body top ts.body like;
-        hash = λ q x holds. see.hashes (name.Entry dir) q (node.Entry ts.entry) x ts.is (inr (inr (subst (λ b. BodyHolds ts.entry.id b q x) (sym ts.body) holds)));
+      led_is = led_inside dir.0 rf.label rf.less rf.more (entries w) ts.entry ts.entry.body top ts.body like;
+      hash = λ q x holds. see.hashes (name.Entry dir) q (node.Entry ts.entry) x ts.is (inr (inr (subst (λ b. BodyHolds ts.entry.id b q x) (sym ts.body) holds)));
     }
 
 -- ---- what a plan ends with
@@ -101,7 +91,7 @@ module _ (old : Shown) (c : Resident) (known_last : Name → Type 0) (e : Drafte
   pub stays_fit : (home t : Treap Row) → Built known_last home t → Stays (seen e c) home t
   stays_fit home Empty h = tt
   stays_fit home (Over y l m) h =
-      ((λ none. elim h.0 [ | inl w ↦ w | inr k ↦ absurd (never_none (seen e c (entry_name y)) (all (entry_name y) k) none) ]), stays_fit home l h.1, stays_fit home m h.2)
+      ((λ none. elim h.0 [ inl w ↦ w | inr k ↦ absurd (never_none (seen e c (entry_name y)) (all (entry_name y) k) none) ]), stays_fit home l h.1, stays_fit home m h.2)
 
 -- what was seen stays so
 pub stays_seen : (d e : Drafted) (c : Resident) → OnlyEntries d e → (n : Name) → IsSome (seen d c n) → IsSome (seen e c n)
@@ -142,11 +132,11 @@ halves_by : (n : List ℕ) (old : Shown) (c : Resident) (i : FileId) (d e : Draf
     → Halves n old c i d e t lows highs
 halves_by n old c i d e t rest [] lows highs is crumbs ll hl lf hf touched =
     record {
-        low_leads = subst (λ v. Leads old c lows (low (before n) v)) is ll;
-        high_leads = subst (λ v. Leads old c highs (high (before n) v)) is hl;
-        low_fits = subst (λ v. Fits old c (IsKnown d c i) e (name.Entry i) (low (before n) v)) is lf;
-        high_fits = subst (λ v. Fits old c (IsKnown d c i) e (name.Entry i) (high (before n) v)) is hf;
-        touched = subst (Touches c d e) is touched;
+      low_leads = subst (λ v. Leads old c lows (low (before n) v)) is ll;
+      high_leads = subst (λ v. Leads old c highs (high (before n) v)) is hl;
+      low_fits = subst (λ v. Fits old c (IsKnown d c i) e (name.Entry i) (low (before n) v)) is lf;
+      high_fits = subst (λ v. Fits old c (IsKnown d c i) e (name.Entry i) (high (before n) v)) is hf;
+      touched = subst (Touches c d e) is touched;
     }
 halves_by n old c i d e t rest (s ∷ ss) lows highs is crumbs ll hl lf hf touched = absurd (no_snoc crumbs.0 crumbs.1 (sym crumbs.2))
 
@@ -162,9 +152,9 @@ grown_by : (old : Shown) (c : Resident) (i : FileId) (d e : Drafted) (p : Name) 
     → ((q : Name) → (drafted e q ≡ drafted d q) ⊎ ((IsSome (seen d c q) × InRows q was) ⊎ (q ≡ name.Entry i))) → Grown old c i d e p t u link
 grown_by old c i d e p t u was now [] link wis nis crumbs leads fits touched =
     record {
-        leads = subst (Leads old c (Some link)) nis leads;
-        fits = subst (Fits old c (IsKnown d c i) e p) nis fits;
-        touched = subst (λ v. (q : Name) → (drafted e q ≡ drafted d q) ⊎ ((IsSome (seen d c q) × InRows q v) ⊎ (q ≡ name.Entry i))) wis touched;
+      leads = subst (Leads old c (Some link)) nis leads;
+      fits = subst (Fits old c (IsKnown d c i) e p) nis fits;
+      touched = subst (λ v. (q : Name) → (drafted e q ≡ drafted d q) ⊎ ((IsSome (seen d c q) × InRows q v) ⊎ (q ≡ name.Entry i))) wis touched;
     }
 grown_by old c i d e p t u was now (s ∷ ss) link wis nis crumbs leads fits touched = absurd (no_snoc crumbs.0 crumbs.1 (sym crumbs.2))
 

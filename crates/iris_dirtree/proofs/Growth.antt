@@ -1,24 +1,23 @@
 -- The way up above a row that is put in.
-use Rattle.std.proofs.Common.{◌≡◌, ◌⊎◌, ◌≤◌, ◌<◌, ◌^◌, ◌++◌, inl, inr, ℕ, Bool, true, false, cond, List, [], ◌∷◌, Option, Some, None, IsSome, refl, ap, sym, ◌∙◌, subst, arith}
+use Rattle.std.proofs.Common.{◌≡◌, ◌⊎◌, ◌<◌, ◌^◌, ◌++◌, inl, inr, Bool, true, false, cond, List, [], ◌∷◌, Option, Some, IsSome, refl, ap, sym, ◌∙◌, subst, arith}
 use Rattle.iris_name.specs.declared.name.FileId.{FileId}
 use Rattle.iris_name.specs.declared.name.Name.{Name}
 use Rattle.iris_name.specs.declared.name.Name.TheVariants as name
 use Rattle.iris_node.specs.declared.node.Link.{Link}
-use Rattle.iris_node.specs.declared.node.Node.{Node}
 use Rattle.iris_node.specs.declared.node.Node.TheVariants as node
 use Rattle.iris_node.specs.Fields.{EntryFields}
 use Rattle.iris_node.specs.Rules.{IsLinked}
 use Rattle.iris_node.specs.Trees.{Shown}
 use Rattle.iris_node.specs.Unfolded.{blocks, id_of}
-use Rattle.iris_shape.specs.Treap.{Treap, Empty, Over}
+use Rattle.iris_shape.specs.Treap.{Treap, Over}
 use Rattle.iris_cache.specs.Resident.{Resident}
-use Rattle.iris_cache.specs.Drafted.{Drafted, drafted, seen, set_to}
+use Rattle.iris_cache.specs.Drafted.{Drafted, drafted, seen}
 use Rattle.iris_dirtree.specs.declared.inserting.Crumb.{Crumb}
 use Rattle.iris_dirtree.specs.Rows.{Row, entries}
 use Rattle.iris_dirtree.specs.Nodes.{turned, LinksTo, IsPut, OnlyEntries}
 use Rattle.iris_dirtree.specs.Grafts.{Fork, entry_name, forked, around, over, InRows, Once, Fits, Leads, IsCrumb, AreCrumbs}
 use Rattle.iris_dirtree.specs.Splits.{IsKnown, Growing, Grows}
-use Rattle.iris_dirtree.proofs.Likes.{LikeRow, like_row}
+use Rattle.iris_dirtree.proofs.Likes.{like_row}
 use Rattle.iris_dirtree.proofs.Owned.{put_at}
 use Rattle.iris_dirtree.proofs.Fitting.{like_turned, turned_hashes, leads_to, fits_frame, fits_set, fits_around, once_around, few_around, in_around, put_either}
 use Rattle.iris_dirtree.proofs.Halving.{snoc_same, no_snoc, over_known, sees_some}

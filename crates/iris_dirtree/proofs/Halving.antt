@@ -1,14 +1,12 @@
 -- The way up along a split.
-use Rattle.std.proofs.Common.{◌≡◌, ◌⊎◌, ◌≤◌, ◌<◌, ◌^◌, ◌++◌, inl, inr, ℕ, Bool, true, false, cond, List, [], ◌∷◌, Option, Some, None, IsSome, refl, ap, sym, ◌∙◌, subst, arith}
+use Rattle.std.proofs.Common.{◌≡◌, ◌≤◌, ◌<◌, ◌^◌, ◌++◌, inl, inr, ℕ, Bool, true, false, cond, List, [], ◌∷◌, Option, Some, None, IsSome, refl, ap, sym, ◌∙◌, subst, arith}
 use Rattle.std.proofs.lemmas.Bool.{cond-true, cond-false}
 use Rattle.iris_name.specs.declared.name.FileId.{FileId}
-use Rattle.iris_name.specs.declared.name.Hash32.{Hash32}
 use Rattle.iris_name.specs.declared.name.Name.{Name}
 use Rattle.iris_name.specs.declared.name.Name.TheVariants as name
 use Rattle.iris_node.specs.declared.node.Link.{Link}
 use Rattle.iris_node.specs.declared.node.Node.{Node}
 use Rattle.iris_node.specs.declared.node.Node.TheVariants as node
-use Rattle.iris_node.specs.Local.{led, led_by}
 use Rattle.iris_node.specs.Trees.{Shown}
 use Rattle.iris_node.specs.Unfolded.{Unfolded, blocks, id_of}
 use Rattle.iris_shape.specs.Treap.{Treap, Empty, Over, Each, low, high}
@@ -16,11 +14,11 @@ use Rattle.iris_cache.specs.Resident.{Resident}
 use Rattle.iris_cache.specs.Drafted.{Drafted, drafted, seen}
 use Rattle.iris_dirtree.specs.declared.inserting.Crumb.{Crumb}
 use Rattle.iris_dirtree.specs.Rows.{Row, Content, Directory, File, entries, entry_of, row_entry}
-use Rattle.iris_dirtree.specs.Ways.{before, is_named}
+use Rattle.iris_dirtree.specs.Ways.{before}
 use Rattle.iris_dirtree.specs.Nodes.{turned, LinksTo, IsPut}
-use Rattle.iris_dirtree.specs.Grafts.{Fork, entry_name, forked, around, over, low_over, high_over, split_over, InRows, Once, WasHash, Fit, Fits, Leads, IsCrumb, AreCrumbs, Passes, Walked}
+use Rattle.iris_dirtree.specs.Grafts.{Fork, entry_name, forked, around, over, low_over, high_over, split_over, InRows, Once, Fits, Leads, IsCrumb, AreCrumbs, Passes}
 use Rattle.iris_dirtree.specs.Splits.{IsKnown, IsSplitWay, Splits, Halved, Touches}
-use Rattle.iris_dirtree.proofs.Likes.{LikeRow, like_row}
+use Rattle.iris_dirtree.proofs.Likes.{like_row}
 use Rattle.iris_dirtree.proofs.Fitting.{like_turned, turned_hashes, leads_to, fits_frame, fits_set, fits_around, once_around, few_around, put_other, put_either}
 
 pub snoc_same : {A : Type 0} (a b : List A) (x y : A) → a ++ x ∷ [] ≡ b ++ y ∷ [] → (a ≡ b) × (x ≡ y)
@@ -134,7 +132,7 @@ touch_more c d e1 e2 row t u x p put id there here inside touched q =
 
 module _ (n : List ℕ) (old : Shown) (c : Resident) (i : FileId) (d e1 e2 : Drafted) (p : Name) (t : Treap Row) (sp : Splits n old c i d p t) where
   untouched : (cur : Treap Row) (q : Name) → Touches c d e1 cur → (InRows q cur → ⊥) → drafted e1 q ≡ drafted d q
-  untouched cur q touched out = elim (touched q) [ | inl e ↦ e | inr r ↦ absurd (out r.1) ]
+  untouched cur q touched out = elim (touched q) [ inl e ↦ e | inr r ↦ absurd (out r.1) ]
 
   few_made : (row : Row) (l m l2 m2 : Treap Row) (ss : List Fork) → around ss (Over row l m) ≡ t → blocks (entries l2) ≤ blocks (entries l) → blocks (entries m2) ≤ blocks (entries m) → blocks (entries (Over row l2 m2)) < 2 ^ 64
   few_made row l m l2 m2 ss is hl hm =
@@ -247,14 +245,14 @@ module _ (n : List ℕ) (old : Shown) (c : Resident) (i : FileId) (d e1 e2 : Dra
 pub halved_start : (n : List ℕ) (old : Shown) (c : Resident) (i : FileId) (d : Drafted) (t : Treap Row) (ks : List Crumb) → IsSplitWay n old c i d t ks → Halved n old c i d d t ks None None
 halved_start n old c i d t ks w =
     record {
-        forks = w.0;
-        rest = Empty;
-        is = w.1.is;
-        crumbs = w.1.crumbs;
-        passed = w.1.passed;
-        low_leads = record { led_is = refl; hash = λ m h x. absurd x };
-        high_leads = record { led_is = refl; hash = λ m h x. absurd x };
-        low_fits = tt;
-        high_fits = tt;
-        touched = λ q. inl refl;
+      forks = w.0;
+      rest = Empty;
+      is = w.1.is;
+      crumbs = w.1.crumbs;
+      passed = w.1.passed;
+      low_leads = record { led_is = refl; hash = λ m h x. absurd x };
+      high_leads = record { led_is = refl; hash = λ m h x. absurd x };
+      low_fits = tt;
+      high_fits = tt;
+      touched = λ q. inl refl;
     }

@@ -1,6 +1,5 @@
 -- The hash that the cache holds of an entry is its true one.
-use Rattle.std.proofs.Common.{◌≡◌, ◌≢◌, ◌⊎◌, ◌≤◌, inl, inr, ℕ, Option, Some, None, IsSome, refl, ap, sym, ◌∙◌, subst, arith}
-use Rattle.std.specs.Option.{option_map}
+use Rattle.std.proofs.Common.{◌≡◌, ◌⊎◌, ◌≤◌, inl, inr, ℕ, Option, Some, None, IsSome, refl, ap, sym, ◌∙◌, subst, arith}
 use Rattle.iris_name.specs.declared.name.FileId.{FileId}
 use Rattle.iris_name.specs.declared.name.Hash32.{Hash32}
 use Rattle.iris_name.specs.declared.name.Name.{Name}
@@ -12,15 +11,15 @@ use Rattle.iris_node.specs.declared.node.Node.{Node}
 use Rattle.iris_node.specs.declared.node.Node.TheVariants as node
 use Rattle.iris_node.specs.Fields.{EntryFields}
 use Rattle.iris_node.specs.Local.{Lead, led, led_by, local, local_of, entry_local}
-use Rattle.iris_node.specs.Trees.{Shown, IsParent, IsAbove, node_name}
-use Rattle.iris_node.specs.Unfolded.{Unfolded, Absent, Folder, Leaf, Even, Split, Stored, id_of, blocks, hash, node_of}
+use Rattle.iris_node.specs.Trees.{Shown, IsAbove, node_name}
+use Rattle.iris_node.specs.Unfolded.{Unfolded, Absent, Folder, Leaf, Even, Split, Stored, id_of, blocks}
 use Rattle.iris_cache.specs.declared.held.Held.{Held}
 use Rattle.iris_cache.specs.Laws.{AreFormed, IsFormed, IsSide}
 use Rattle.iris_cache.specs.Resident.{Resident, held}
-use Rattle.iris_cache.specs.Pictures.{Pictures, IsLike, IsHashOf, Holds, BodyHolds, LinkHolds}
+use Rattle.iris_cache.specs.Pictures.{Pictures, IsLike, Holds, BodyHolds, LinkHolds}
 use Rattle.iris_dirtree.specs.Rows.{IsRooted, IsRootName}
 use Rattle.iris_dirtree.specs.Grafts.{WasHash}
-use Rattle.iris_dirtree.specs.Nodes.{IsLinkOf, IsLinkIn}
+use Rattle.iris_dirtree.specs.Nodes.{IsLinkIn}
 use Rattle.iris_dirtree.proofs.Recounts.{got}
 
 entry_num : Name → ℕ
@@ -121,18 +120,18 @@ pub true_hash : (old : Shown) (c : Resident) (i : FileId) (o : Option Link) (x :
 true_hash old c i o x le rooted formed pic some found is settled u live = elim (rooted (name.Entry i) u live tt) [
   | inl r ↦ absurd (no_root i le r)
   | inr r ↦
-    let n = name.Entry i in
-    let p = r.0 in
-    let par = r.1 in
-    let h = got (held c n) some in
-    let up = pic.parents n p h.0 h.1 par in
-    let g = got (held c p) up.1 in
-    let link = found h.0 g.0 p h.1 up.0 g.1 in
-    let P : Option Unfolded → Type 0 = λ v. IsLike v g.0.node in
-    let like = subst P par.live (pic.nodes p g.0 g.1) in
-    let some_hash = holds_entry i par.child par.named par.parent g.0.node (formed p par.parent par.live) par.above like in
-    let l = of_link g.0.node i o some_hash.0 link some_hash.1 in
-    pic.hashes p n g.0 l.0.hash g.1 l.2 settled u live ∙ ap Some (is l.0 l.1)
+      let n = name.Entry i in
+      let p = r.0 in
+      let par = r.1 in
+      let h = got (held c n) some in
+      let up = pic.parents n p h.0 h.1 par in
+      let g = got (held c p) up.1 in
+      let link = found h.0 g.0 p h.1 up.0 g.1 in
+      let P : Option Unfolded → Type 0 = λ v. IsLike v g.0.node in
+      let like = subst P par.live (pic.nodes p g.0 g.1) in
+      let some_hash = holds_entry i par.child par.named par.parent g.0.node (formed p par.parent par.live) par.above like in
+      let l = of_link g.0.node i o some_hash.0 link some_hash.1 in
+      pic.hashes p n g.0 l.0.hash g.1 l.2 settled u live ∙ ap Some (is l.0 l.1)
 ]
 
 pub same_hash : (k l : Link) → Some k ≡ Some l → k.hash ≡ l.hash

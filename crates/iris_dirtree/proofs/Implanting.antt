@@ -1,5 +1,5 @@
 -- What an insertion makes of the nodes of a directory's rows.
-use Rattle.std.proofs.Common.{◌≡◌, ◌≢◌, ◌⊎◌, ◌+◌, ◌≤◌, ◌<◌, ◌^◌, ◌++◌, inl, inr, ℕ, Bool, true, false, cond, List, [], ◌∷◌, Option, Some, None, IsSome, refl, ap, sym, ◌∙◌, subst, arith}
+use Rattle.std.proofs.Common.{◌≡◌, ◌⊎◌, ◌<◌, ◌^◌, inl, inr, ℕ, Bool, true, false, List, [], ◌∷◌, Option, Some, None, IsSome, refl, ap, sym, ◌∙◌, subst, arith}
 use Rattle.iris_name.specs.Names.{same_name}
 use Rattle.iris_name.specs.NameLaws.{same_name-true}
 use Rattle.iris_name.specs.Hmac.{priority}
@@ -13,35 +13,33 @@ use Rattle.iris_node.specs.declared.node.Link.{Link}
 use Rattle.iris_node.specs.declared.node.Node.{Node}
 use Rattle.iris_node.specs.declared.node.Node.TheVariants as node
 use Rattle.iris_node.specs.Fields.{EntryFields}
-use Rattle.iris_node.specs.Local.{led, led_by}
-use Rattle.iris_node.specs.Trees.{Shown, IsTree, IsAbove}
+use Rattle.iris_node.specs.Trees.{Shown, IsTree}
 use Rattle.iris_node.specs.Unfolded.{Unfolded, id_of, blocks}
-use Rattle.iris_shape.specs.Order.{beats, Rising, Distinct}
+use Rattle.iris_shape.specs.Order.{beats}
 use Rattle.iris_shape.specs.Treap.{Treap, Empty, Over, treap, rows, low, high, insert, put, way, Each}
 use Rattle.iris_shape.proofs.Treaps.{rows_treap}
 use Rattle.iris_cache.specs.declared.held.Held.{Held}
 use Rattle.iris_cache.specs.declared.draft.Change.{Change}
-use Rattle.iris_cache.specs.Laws.{AreFormed}
 use Rattle.iris_cache.specs.Resident.{Resident, held}
-use Rattle.iris_cache.specs.Drafted.{Drafted, drafted, known, seen, known_by, there_by, set_to}
-use Rattle.iris_cache.specs.Pictures.{Pictures, IsLike, IsHashOf, Holds, BodyHolds, LinkHolds, IsSettled, parent_after}
+use Rattle.iris_cache.specs.Drafted.{Drafted, drafted, seen, known_by, there_by, set_to}
+use Rattle.iris_cache.specs.Pictures.{Holds, BodyHolds, parent_after}
 use Rattle.iris_dirtree.specs.declared.inserting.Crumb.{Crumb}
-use Rattle.iris_dirtree.specs.Rows.{Row, row_id, row_name, entries, row_entry, up, Rearranges, IsCountable, IsRooted, HasRows}
-use Rattle.iris_dirtree.specs.Ways.{Any, before, is_named}
-use Rattle.iris_dirtree.specs.Hands.{Holding, IsRowNode, HoldsTrue}
+use Rattle.iris_dirtree.specs.Rows.{Row, entries, up, Rearranges, IsCountable}
+use Rattle.iris_dirtree.specs.Ways.{before}
+use Rattle.iris_dirtree.specs.Hands.{IsRowNode, HoldsTrue}
 use Rattle.iris_dirtree.specs.Needs.{ListedInHand}
-use Rattle.iris_dirtree.specs.Planted.{Planted, Likes, Hang, Stays, IsWithin, IsRowName, with_top, topped}
+use Rattle.iris_dirtree.specs.Planted.{Planted, IsWithin, IsRowName, with_top, topped}
 use Rattle.iris_dirtree.specs.Nodes.{between, dir_top, LinksTo, IsPut, OnlyEntries}
-use Rattle.iris_dirtree.specs.Grafts.{Fork, entry_name, forked, around, over, split_over, InRows, Once, WasHash, Fits, Leads, AreCrumbs, Passes, Walked, TopBelow, Reached}
-use Rattle.iris_dirtree.specs.Splits.{IsKnown, IsSplitWay, Splits, Halved, Touches, Growing, Grows}
+use Rattle.iris_dirtree.specs.Grafts.{Fork, entry_name, around, over, split_over, InRows, Once, WasHash, Fits, Leads, Passes, TopBelow, Reached}
+use Rattle.iris_dirtree.specs.Splits.{IsKnown, IsSplitWay, Splits, Halved, Growing, Grows}
 use Rattle.iris_dirtree.proofs.Sees.{Sees, sees_holding, some_node}
-use Rattle.iris_dirtree.proofs.Likes.{Placed, Roof, roof, placed_rows}
-use Rattle.iris_dirtree.proofs.Recounts.{got, never_none}
-use Rattle.iris_dirtree.proofs.Fitting.{like_row_node, row_node_id, between_hashes, leads_to, seen_same, over_same, seen_put, fits_frame, put_either, other_name, fits_set, fits_around, once_around, in_around, few_around}
+use Rattle.iris_dirtree.proofs.Likes.{Roof, roof, placed_rows}
+use Rattle.iris_dirtree.proofs.Recounts.{never_none}
+use Rattle.iris_dirtree.proofs.Fitting.{like_row_node, row_node_id, between_hashes, leads_to, seen_same, over_same, fits_frame, put_either, other_name, fits_set, fits_around, once_around, in_around, few_around}
 use Rattle.iris_dirtree.proofs.Walks.{crumbs_there}
 use Rattle.iris_dirtree.proofs.Halving.{in_low, in_high, over_known}
-use Rattle.iris_dirtree.proofs.Insertions.{in_any, any_in, once_treap, put_fresh, put_has, put_row, put_none, put_is, insert_around, seated, top_beaten, Built, built_within, built_low, built_high, built_around, within_around, way_around, blocks_split, over_both, none_inside}
-use Rattle.iris_dirtree.proofs.Grafting.{fits_of, TopSeen, top_seen, leads_of, likes_fit, hang_fit, hash_fit, stays_fit, stays_seen, few_top, Halves, halves_of, Grown, grown_of}
+use Rattle.iris_dirtree.proofs.Insertions.{in_any, any_in, once_treap, put_fresh, put_has, put_row, put_none, put_is, insert_around, seated, top_beaten, Built, built_low, built_high, built_around, within_around, way_around, blocks_split, over_both, none_inside}
+use Rattle.iris_dirtree.proofs.Grafting.{fits_of, top_seen, leads_of, likes_fit, hang_fit, hash_fit, stays_fit, stays_seen, few_top, halves_of, Grown}
 
 each_map : {A : Type 0} (P Q : A → Type 0) (xs : List A) → ((x : A) → P x → Q x) → Each P xs → Each Q xs
 each_map P Q [] f h = tt
@@ -54,7 +52,7 @@ entry_of_name None None h = absurd (never_none (there_by (known_by None None)) h
 
 -- a name that is seen is resident, or wasn't live before
 resident_seen : (old new : Shown) (d : Drafted) (c : Resident) (n : Name) → Sees old new d c → IsSome (seen d c n) → IsSome (held c n) ⊎ (old n ≡ None)
-resident_seen old new d c n see h = elim (entry_of_name (drafted d n) (held c n) h) [ | inl r ↦ see.resident n r.0 r.1 | inr r ↦ inl r ]
+resident_seen old new d c n see h = elim (entry_of_name (drafted d n) (held c n) h) [ inl r ↦ see.resident n r.0 r.1 | inr r ↦ inl r ]
 
 hand_by : (old new : Shown) (d : Drafted) (c : Resident) (i : FileId) (o : Option Change) (w : Option Held) → Sees old new d c → new (name.Entry i) ≡ None → drafted d (name.Entry i) ≡ o → held c (name.Entry i) ≡ w → IsSome (held c (name.Entry i)) ⊎ (old (name.Entry i) ≡ None)
 hand_by old new d c i (Some ch) w see out de he = see.resident (name.Entry i) ch de
@@ -249,19 +247,19 @@ module _ (key : List ℕ) (dir : FileId) (x : Row) (made_node : EntryFields) (d 
         let above = each_map (λ (s : Fork). IsSome (seen d c (entry_name s.row))) (λ s. known_last (entry_name s.row)) r.forks (λ s h. inl h) (crumbs_there old c d (λ ss s. over root ss) r.forks ks r.walked.crumbs) in
         let me : known_last (entry_name x) = inr (sym named_id) in
         subst (Built known_last t) whole
-          (built_around known_last t r.forks R (Over x (low (before n) R) (high (before n) R)) inside above (inr me, built_low known_last t (before n) R below on_way, built_high known_last t (before n) R below on_way))
+        (built_around known_last t r.forks R (Over x (low (before n) R) (high (before n) R)) inside above (inr me, built_low known_last t (before n) R below on_way, built_high known_last t (before n) R below on_way))
 
     module _ (d3 e : Drafted) (link : Link) (top : Option Link) (top_is : dir_top (seen d c root) ≡ Some top) (grown : Grown old c made_node.id d d3 root t u link) (built : Built known_last t u) (only : OnlyEntries d e) (comes : IsSome (seen e c (name.Entry made_node.id)))
-      (set : (y : EntryFields) → seen d3 c root ≡ Some (node.Entry y) → drafted e root ≡ Some (set_to (parent_after d3 c root) (node.Entry (with_top (Some link) y)))) (frame : (q : Name) → same_name root q ≡ false → drafted e q ≡ drafted d3 q) where
+        (set : (y : EntryFields) → seen d3 c root ≡ Some (node.Entry y) → drafted e root ≡ Some (set_to (parent_after d3 c root) (node.Entry (with_top (Some link) y)))) (frame : (q : Name) → same_name root q ≡ false → drafted e q ≡ drafted d3 q) where
       dir_same : drafted d3 root ≡ drafted d root
-      dir_same = elim (grown.touched root) [ | inl s ↦ s | inr (inl r) ↦ absurd (dir_not_was r.1) | inr (inr r) ↦ absurd (dir_not_x r) ]
+      dir_same = elim (grown.touched root) [ inl s ↦ s | inr (inl r) ↦ absurd (dir_not_was r.1) | inr (inr r) ↦ absurd (dir_not_x r) ]
 
       off_dir : (q : Name) → (q ≡ root → ⊥) → drafted e q ≡ drafted d3 q
       off_dir q out = frame q (other_name root q (same_name root q) refl out)
 
       touched_by : (q : Name) (b : Bool) → same_name root q ≡ b → (drafted e q ≡ drafted d q) ⊎ ((q ≡ root) ⊎ ((IsSome (seen d c q) × InRows q t) ⊎ (q ≡ name.Entry made_node.id)))
       touched_by q true h = inr (inl (sym (same_name-true root q h)))
-      touched_by q false h = elim (grown.touched q) [ | inl s ↦ inl (frame q h ∙ s) | inr (inl r) ↦ inr (inr (inl r)) | inr (inr r) ↦ inr (inr (inr r)) ]
+      touched_by q false h = elim (grown.touched q) [ inl s ↦ inl (frame q h ∙ s) | inr (inl r) ↦ inr (inr (inl r)) | inr (inr r) ↦ inr (inr (inr r)) ]
 
       touched : (q : Name) → (drafted e q ≡ drafted d q) ⊎ ((q ≡ root) ⊎ ((IsSome (seen d c q) × InRows q t) ⊎ (q ≡ name.Entry made_node.id)))
       touched q = touched_by q (same_name root q) refl
@@ -271,7 +269,7 @@ module _ (key : List ℕ) (dir : FileId) (x : Row) (made_node : EntryFields) (d 
       all_seen q (inr h) = subst (λ v. IsSome (seen e c v)) (sym h) comes
 
       dir_not_now : InRows root u → ⊥
-      dir_not_now h = elim (put_none (before x.name) x xs root (in_now root h)) [ | inl r ↦ dir_not_x (r ∙ sym named_id) | inr r ↦ dir_not_was (any_in root t (was_rows root r)) ]
+      dir_not_now h = elim (put_none (before x.name) x xs root (in_now root h)) [ inl r ↦ dir_not_x (r ∙ sym named_id) | inr r ↦ dir_not_was (any_in root t (was_rows root r)) ]
 
       fits_end : Fits old c known_last e root u
       fits_end = fits_frame old c known_last d3 e root u (λ q j. off_dir q (λ s. dir_not_now (subst (λ v. InRows v u) s j))) grown.fits
@@ -298,27 +296,27 @@ module _ (key : List ℕ) (dir : FileId) (x : Row) (made_node : EntryFields) (d 
 
       pub planted : Planted old dir t u d e c
       planted = record {
-          top = Some link;
-          leads = grown.leads.led_is;
-          entry = entry_is;
-          likes = likes_fit old c known_last e all_seen root u fits_end;
-          hang = hang_fit old c known_last e all_seen root u fits_end;
-          stays = stays_fit old c known_last e all_seen t u built;
-          hashes = hash_end;
-          others = λ q a b k. elim (touched q) [ | inl s ↦ s | inr (inl s) ↦ absurd (k s) | inr (inr (inl s)) ↦ absurd (a (in_any q t s.1)) | inr (inr (inr s)) ↦ absurd (b (now_rows q (subst (IsRowName (put (before x.name) x xs)) (sym (s ∙ named_id)) (put_row (before x.name) x xs)))) ];
-          kept = λ q a b h. stays_seen d e c only q h;
-          missing = λ q a b none. elim (touched q) [
-            | inl s ↦ s
-            | inr (inl s) ↦ absurd (dir_not_was (subst (λ v. InRows v t) s (any_in q t a)))
-            | inr (inr (inl s)) ↦ absurd (never_none (seen d c q) s.0 none)
-            | inr (inr (inr s)) ↦ absurd (fresh (subst (λ v. InRows v t) s (any_in q t a)))
-          ];
-          came = λ q a out. elim (put_none (before x.name) x xs q (rows_now q a)) [ | inl s ↦ subst (λ v. IsSome (seen e c v)) (sym (s ∙ sym named_id)) comes | inr s ↦ absurd (out (was_rows q s)) ];
-          went = λ q a out. absurd (out (now_rows q (put_has (before x.name) x xs q (rows_was q a))));
-          resident = λ q ch h. elim (touched q) [
-            | inl s ↦ see.resident q ch (sym s ∙ h)
-            | inr (inl s) ↦ resident_seen old new d c q see (subst (λ v. IsSome (seen d c v)) (sym s) (there_root top top_is))
-            | inr (inr (inl s)) ↦ resident_seen old new d c q see s.0
-            | inr (inr (inr s)) ↦ (let P : Name → Type 0 = λ v. IsSome (held c v) ⊎ (old v ≡ None) in subst P (sym s) (hand_resident old new d c made_node.id see (ap new named_id ∙ all.listed.hand.out)))
-          ];
+        top = Some link;
+        leads = grown.leads.led_is;
+        entry = entry_is;
+        likes = likes_fit old c known_last e all_seen root u fits_end;
+        hang = hang_fit old c known_last e all_seen root u fits_end;
+        stays = stays_fit old c known_last e all_seen t u built;
+        hashes = hash_end;
+        others = λ q a b k. elim (touched q) [ inl s ↦ s | inr (inl s) ↦ absurd (k s) | inr (inr (inl s)) ↦ absurd (a (in_any q t s.1)) | inr (inr (inr s)) ↦ absurd (b (now_rows q (subst (IsRowName (put (before x.name) x xs)) (sym (s ∙ named_id)) (put_row (before x.name) x xs)))) ];
+        kept = λ q a b h. stays_seen d e c only q h;
+        missing = λ q a b none. elim (touched q) [
+          | inl s ↦ s
+          | inr (inl s) ↦ absurd (dir_not_was (subst (λ v. InRows v t) s (any_in q t a)))
+          | inr (inr (inl s)) ↦ absurd (never_none (seen d c q) s.0 none)
+          | inr (inr (inr s)) ↦ absurd (fresh (subst (λ v. InRows v t) s (any_in q t a)))
+        ];
+        came = λ q a out. elim (put_none (before x.name) x xs q (rows_now q a)) [ inl s ↦ subst (λ v. IsSome (seen e c v)) (sym (s ∙ sym named_id)) comes | inr s ↦ absurd (out (was_rows q s)) ];
+        went = λ q a out. absurd (out (now_rows q (put_has (before x.name) x xs q (rows_was q a))));
+        resident = λ q ch h. elim (touched q) [
+          | inl s ↦ see.resident q ch (sym s ∙ h)
+          | inr (inl s) ↦ resident_seen old new d c q see (subst (λ v. IsSome (seen d c v)) (sym s) (there_root top top_is))
+          | inr (inr (inl s)) ↦ resident_seen old new d c q see s.0
+          | inr (inr (inr s)) ↦ (let P : Name → Type 0 = λ v. IsSome (held c v) ⊎ (old v ≡ None) in subst P (sym s) (hand_resident old new d c made_node.id see (ap new named_id ∙ all.listed.hand.out)))
+        ];
       }

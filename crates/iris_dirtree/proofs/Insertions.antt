@@ -1,14 +1,14 @@
 -- A row put into the list of a directory's rows, and into their treap.
-use Rattle.std.proofs.Common.{◌≡◌, ◌≢◌, ◌⊎◌, ◌+◌, ◌≤◌, ◌<◌, ◌^◌, ◌++◌, inl, inr, ℕ, Bool, true, false, cond, List, [], ◌∷◌, Option, Some, None, IsSome, refl, ap, sym, ◌∙◌, subst, arith}
+use Rattle.std.proofs.Common.{◌≡◌, ◌≢◌, ◌⊎◌, ◌+◌, ◌≤◌, ◌++◌, inl, inr, ℕ, Bool, true, false, cond, List, [], ◌∷◌, Some, refl, ap, sym, ◌∙◌, subst, arith}
 use Rattle.std.proofs.lemmas.Bool.{cond-true, cond-false}
 use Rattle.iris_name.specs.Hmac.{priority}
 use Rattle.iris_name.specs.declared.name.FileId.{FileId}
 use Rattle.iris_name.specs.declared.name.Name.{Name}
 use Rattle.iris_name.specs.declared.name.Name.TheVariants as name
-use Rattle.iris_node.specs.Trees.{Shown, IsTree, IsAbove}
+use Rattle.iris_node.specs.Trees.{Shown, IsAbove}
 use Rattle.iris_node.specs.Unfolded.{Unfolded, id_of, blocks}
-use Rattle.iris_shape.specs.Order.{beats, beside, Rising, Distinct}
-use Rattle.iris_shape.specs.Treap.{Treap, Empty, Over, treap, rows, low, high, insert, put, keep, skip, way, Each, AllApart, Apart}
+use Rattle.iris_shape.specs.Order.{beats, Rising, Distinct}
+use Rattle.iris_shape.specs.Treap.{Treap, Empty, Over, treap, rows, low, high, insert, put, keep, skip, way, Each, AllApart}
 use Rattle.iris_shape.proofs.Treaps.{rows_treap}
 use Rattle.iris_shape.proofs.LawProofs.{treap_put, priorities_rank, names_part}
 use Rattle.iris_dirtree.specs.Rows.{Row, Content, Directory, File, row_id, row_name, row_entry, entry_of, entries, up}
@@ -16,7 +16,8 @@ use Rattle.iris_dirtree.specs.Ways.{Any, before}
 use Rattle.iris_dirtree.specs.Planted.{IsRowName, IsWithin}
 use Rattle.iris_dirtree.specs.Grafts.{Fork, entry_name, forked, around, InRows, Once, TopBelow}
 use Rattle.iris_dirtree.proofs.Likes.{Placed, above_less, above_more}
-use Rattle.iris_dirtree.proofs.Pasts.{size, smaller}
+use Rattle.iris_dirtree.specs.Reached.{size}
+use Rattle.iris_dirtree.proofs.Sizes.{above_larger}
 use Rattle.iris_dirtree.proofs.HeldHashes.{num_of}
 
 -- ---- lists of rows
@@ -33,7 +34,7 @@ any_right P (y ∷ a) b h = inr (any_right P a b h)
 any_split : {A : Type 0} (P : A → Type 0) (a b : List A) → Any P (a ++ b) → Any P a ⊎ Any P b
 any_split P [] b h = inr h
 any_split P (y ∷ a) b (inl h) = inl (inl h)
-any_split P (y ∷ a) b (inr h) = elim (any_split P a b h) [ | inl k ↦ inl (inr k) | inr k ↦ inr k ]
+any_split P (y ∷ a) b (inr h) = elim (any_split P a b h) [ inl k ↦ inl (inr k) | inr k ↦ inr k ]
 
 pub each_parts : {A : Type 0} (P : A → Type 0) (a : List A) (y : A) (b : List A) → Each P (a ++ y ∷ b) → Each P a × P y × Each P b
 each_parts P [] y b h = (tt, h.0, h.1)
@@ -65,11 +66,11 @@ distinct_parts (z ∷ a) y b h =
     let r = distinct_parts a y b h.1 in
     let e = each_parts (λ w. z.id ≢ w.id) a y b h.0 in
     record {
-        not_before = λ i. elim i [ | inl s ↦ e.1 (sym (same_id y z s)) | inr j ↦ r.not_before j ];
-        not_after = r.not_after;
-        apart = λ q i j. elim i [ | inl s ↦ none_named z b e.2 (subst (IsRowName b) s j) | inr k ↦ r.apart q k j ];
-        front = (e.0, r.front);
-        back = r.back;
+      not_before = λ i. elim i [ inl s ↦ e.1 (sym (same_id y z s)) | inr j ↦ r.not_before j ];
+      not_after = r.not_after;
+      apart = λ q i j. elim i [ inl s ↦ none_named z b e.2 (subst (IsRowName b) s j) | inr k ↦ r.apart q k j ];
+      front = (e.0, r.front);
+      back = r.back;
     }
 
 pub in_any : (q : Name) (t : Treap Row) → InRows q t → IsRowName (rows t) q
@@ -268,12 +269,12 @@ in_size t q Empty h i = absurd i
 in_size t q (Over y l m) h (inl e) = (entries (Over y l m), ap t e ∙ h.0, omega arith)
 in_size t q (Over y l m) h (inr (inl i)) =
     let r = in_size t q l h.1 i in
-    let s = smaller (entries (Over y l m)) (entries l) (above_less y.id y.name y.content (entries l) (entries m)) in
+    let s = above_larger (entries (Over y l m)) (entries l) (above_less y.id y.name y.content (entries l) (entries m)) in
     let a = r.2 in
     (r.0, r.1, omega (arith, s, a))
 in_size t q (Over y l m) h (inr (inr i)) =
     let r = in_size t q m h.2 i in
-    let s = smaller (entries (Over y l m)) (entries m) (above_more y.id y.name y.content (entries l) (entries m)) in
+    let s = above_larger (entries (Over y l m)) (entries m) (above_more y.id y.name y.content (entries l) (entries m)) in
     let a = r.2 in
     (r.0, r.1, omega (arith, s, a))
 
@@ -284,7 +285,7 @@ pub none_inside : (t : Shown) (q : Name) (u : Unfolded) (w : Treap Row) → t q 
 none_inside t q u w live above placed i =
     let r = in_size t q w placed i in
     let e : r.0 ≡ u = same_some r.0 u (sym r.1 ∙ live) in
-    let s = smaller u (entries w) above in
+    let s = above_larger u (entries w) above in
     let a = r.2 in
     let z = ap size e in
     omega (arith, s, a, z)

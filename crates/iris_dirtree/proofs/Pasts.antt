@@ -11,26 +11,14 @@ use Rattle.iris_name.specs.NameLaws.{same_name_equiv, same_name-true}
 use Rattle.iris_name.specs.declared.name.Name.{Name}
 use Rattle.iris_node.specs.declared.node.Node.{Node}
 use Rattle.iris_node.specs.Trees.{Shown, IsAbove}
-use Rattle.iris_node.specs.Unfolded.{Unfolded, Absent, Folder, Leaf, Even, Split, Stored}
+use Rattle.iris_node.specs.Unfolded.{Unfolded}
 use Rattle.iris_cache.specs.declared.held.Held.{Held}
 use Rattle.iris_cache.specs.declared.draft.Change.{Change}
 use Rattle.iris_cache.specs.Resident.{Resident, held}
 use Rattle.iris_cache.specs.Drafted.{Drafted, drafted, seen, known_by, there_by}
 use Rattle.iris_dirtree.specs.Reached.{size, Past}
 use Rattle.iris_cache.proofs.Rising.{or-split}
-
-pub smaller : (u w : Unfolded) → IsAbove u w → size w < size u
-smaller (Folder id label less more inside) w (inl h) = let e = ap size h in omega (arith, e)
-smaller (Folder id label less more inside) w (inr (inl h)) = let e = ap size h in omega (arith, e)
-smaller (Folder id label less more inside) w (inr (inr h)) = let e = ap size h in omega (arith, e)
-smaller (Leaf id label less more length counter versions) w (inl h) = let e = ap size h in omega (arith, e)
-smaller (Leaf id label less more length counter versions) w (inr (inl h)) = let e = ap size h in omega (arith, e)
-smaller (Leaf id label less more length counter versions) w (inr (inr h)) = let e = ap size h in omega (arith, e)
-smaller (Split file level index low high) w (inl h) = let e = ap size h in omega (arith, e)
-smaller (Split file level index low high) w (inr h) = let e = ap size h in omega (arith, e)
-smaller Absent w h = absurd h
-smaller (Even version) w h = absurd h
-smaller (Stored version bytes) w h = absurd h
+use Rattle.iris_dirtree.proofs.Sizes.{above_larger}
 
 pub past_less : (t : Shown) (s : Name → Option Node) (k v w : ℕ) → w ≤ v → Past t s k v → Past t s k w
 past_less t s zero v w le p = tt
@@ -38,7 +26,7 @@ past_less t s (suc k) v w le p = let lt = p.4 in (p.0, p.1, p.2, p.3, omega arit
 
 -- one node more
 pub past_more : (t : Shown) (s : Name → Option Node) (k : ℕ) (n : Name) (u w : Unfolded) → Past t s k (size u) → t n ≡ Some u → IsSome (s n) → IsAbove u w → Past t s (suc k) (size w)
-past_more t s k n u w p live there above = (n, u, live, there, smaller u w above, p)
+past_more t s k n u w p live there above = (n, u, live, there, above_larger u w above, p)
 
 module _ (t : Shown) (d : Drafted) (c : Resident) where
   abbrev names : (k v : ℕ) → Past t (seen d c) k v → List Name

@@ -1,5 +1,5 @@
 -- The treap without a row is planted.
-use Rattle.std.proofs.Common.{◌≡◌, ◌≢◌, ◌⊎◌, ◌+◌, ◌<◌, ◌^◌, inl, inr, ℕ, Bool, true, false, cond, List, [], ◌∷◌, Option, Some, None, IsSome, refl, ap, sym, ◌∙◌, subst, arith}
+use Rattle.std.proofs.Common.{◌≡◌, ◌≢◌, ◌⊎◌, ◌+◌, ◌<◌, ◌^◌, inl, inr, ℕ, Bool, true, false, cond, List, [], Option, Some, None, IsSome, refl, ap, sym, ◌∙◌, subst, arith}
 use Rattle.iris_name.specs.Names.{same_name}
 use Rattle.iris_name.specs.NameLaws.{same_name-true, same_name-refl}
 use Rattle.iris_name.specs.declared.name.FileId.{FileId}
@@ -15,8 +15,7 @@ use Rattle.iris_node.specs.Fields.{EntryFields}
 use Rattle.iris_node.specs.Local.{local, entry_local}
 use Rattle.iris_node.specs.Trees.{Shown}
 use Rattle.iris_node.specs.Unfolded.{Unfolded, Absent, blocks, id_of}
-use Rattle.iris_shape.specs.Order.{Distinct}
-use Rattle.iris_shape.specs.Treap.{Treap, treap, rows, without, Each, Every}
+use Rattle.iris_shape.specs.Treap.{Treap, treap, rows, without, Every}
 use Rattle.iris_shape.proofs.Treaps.{every_of, rows_treap}
 use Rattle.iris_cache.specs.declared.held.Held.{Held}
 use Rattle.iris_cache.specs.declared.draft.Change.{Change}
@@ -29,7 +28,7 @@ use Rattle.iris_dirtree.specs.Hands.{IsRowNode, HoldsTrue}
 use Rattle.iris_dirtree.specs.Needs.{Listed}
 use Rattle.iris_dirtree.specs.Nodes.{OnlyEntries}
 use Rattle.iris_dirtree.specs.Planted.{IsRowName, Planted, topped, with_top}
-use Rattle.iris_dirtree.specs.Rows.{Row, Content, Directory, File, HasRows, IsCountable, row_id, entry_of, entries, row_entry, up}
+use Rattle.iris_dirtree.specs.Rows.{Row, Content, Directory, File, HasRows, IsCountable, entry_of, entries, row_entry, up}
 use Rattle.iris_dirtree.specs.Steps.{entry_name, WasHash, Leads, Seated, Outside, Rising}
 use Rattle.iris_dirtree.specs.Ways.{Any, is_named}
 use Rattle.iris_dirtree.proofs.Begins.{Holder, dir_apart}
@@ -183,12 +182,12 @@ module _ (old new : Shown) (key : List ℕ) (dir : FileId) (n : List ℕ) (d : D
         let dir2 : drafted d2 p ≡ drafted d p = up_.off p dir_outside in
         let seen2 = seen_same d d2 c p dir2 in
         let entry : (z : EntryFields) → seen d c p ≡ Some (node.Entry z) → drafted d4 p ≡ Some (set_to (parent_after d c p) (node.Entry (with_top top z))) = λ z at.
-            made_apart d3 d4 nx (Some taken_away) p gone apart2 ∙ set z (seen2 ∙ at) ∙ ap (λ q. Some (set_to q (node.Entry (with_top top z)))) (parent_same d d2 c p dir2) in
+        made_apart d3 d4 nx (Some taken_away) p gone apart2 ∙ set z (seen2 ∙ at) ∙ ap (λ q. Some (set_to q (node.Entry (with_top top z)))) (parent_same d d2 c p dir2) in
         let z = hold.entry in
         let dir_seen : seen d4 c p ≡ Some (node.Entry (with_top top z)) = ap (λ o. there_by (known_by o (held c p))) (entry z hold.is) in
         let E : Every (λ r. drafted d4 (entry_name r) ≡ drafted d2 (entry_name r)) u = every_of (λ r. drafted d4 (entry_name r) ≡ drafted d2 (entry_name r)) u (among_each (λ r. drafted d4 (entry_name r) ≡ drafted d2 (entry_name r)) (rows u) (λ r k.
-            let a = row_any (λ (y : Row). entry_name r ≡ entry_name y) (rows u) r k refl in
-            same42 (entry_name r) (not_taken (entry_name r) a) (not_dir (entry_name r) (after_before (entry_name r) a)))) in
+        let a = row_any (λ (y : Row). entry_name r ≡ entry_name y) (rows u) r k refl in
+        same42 (entry_name r) (not_taken (entry_name r) a) (not_dir (entry_name r) (after_before (entry_name r) a)))) in
         let seated : Seated old c t d4 p u = seated_same old c t d2 d4 p u E (λ h. is_there (seen d4 c p) (node.Entry (with_top top z)) dir_seen) up_.seated in
         let both : (m : Name) → IsRowName (rows t) m → IsRowName (rows u) m → drafted d4 m ≡ drafted d2 m = λ m a b. same42 m (not_taken m b) (not_dir m a) in
         record {

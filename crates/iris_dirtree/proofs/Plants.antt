@@ -1,43 +1,33 @@
 -- What is set up of a treap, with its top in the directory's entry, is the treap planted.
-use Rattle.std.proofs.Common.{◌≡◌, ◌≢◌, ◌⊎◌, inl, inr, ◌<◌, ◌^◌, ℕ, Bool, true, false, cond, List, [], ◌∷◌, Option, Some, None, IsSome, refl, ap, sym, ◌∙◌, subst}
+use Rattle.std.proofs.Common.{◌≡◌, ◌≢◌, ◌⊎◌, inl, inr, Bool, true, false, List, [], ◌∷◌, Option, Some, None, IsSome, refl, ap, sym, ◌∙◌, subst}
 use Rattle.iris_name.specs.Names.{same_name}
 use Rattle.iris_name.specs.NameLaws.{same_name-true, same_name-refl}
 use Rattle.iris_name.specs.declared.name.FileId.{FileId}
 use Rattle.iris_name.specs.declared.name.Hash32.{Hash32}
 use Rattle.iris_name.specs.declared.name.Name.{Name}
 use Rattle.iris_name.specs.declared.name.Name.TheVariants as name
-use Rattle.iris_node.specs.declared.node.Body.{Body}
-use Rattle.iris_node.specs.declared.node.Body.TheVariants.{Dir, File as FileBody}
 use Rattle.iris_node.specs.declared.node.Link.{Link}
 use Rattle.iris_node.specs.declared.node.Node.{Node}
 use Rattle.iris_node.specs.declared.node.Node.TheVariants as node
 use Rattle.iris_node.specs.Fields.{EntryFields}
-use Rattle.iris_node.specs.Local.{led, led_by, local, entry_local}
+use Rattle.iris_node.specs.Local.{led_by}
 use Rattle.iris_node.specs.Trees.{Shown}
-use Rattle.iris_node.specs.Unfolded.{Unfolded, Absent, id_of}
-use Rattle.iris_shape.specs.Order.{Distinct}
-use Rattle.iris_shape.specs.Treap.{Treap, Empty, Over, treap, rows, without, Each, Every}
-use Rattle.iris_shape.proofs.Treaps.{every_map, every_of, rows_treap}
-use Rattle.iris_cache.specs.declared.held.Held.{Held}
-use Rattle.iris_cache.specs.declared.draft.Change.{Change}
-use Rattle.iris_cache.specs.Resident.{Resident, held}
-use Rattle.iris_cache.specs.Drafted.{Drafted, drafted, seen, known_by, there_by, set_to, taken_away}
-use Rattle.iris_cache.specs.Pictures.{Holds, LinkHolds, BodyHolds, IsLike, parent_after}
+use Rattle.iris_node.specs.Unfolded.{Unfolded, id_of}
+use Rattle.iris_shape.specs.Treap.{Treap, Empty, Over, rows, Every}
+use Rattle.iris_shape.proofs.Treaps.{every_map}
+use Rattle.iris_cache.specs.Resident.{Resident}
+use Rattle.iris_cache.specs.Drafted.{Drafted, drafted, seen}
+use Rattle.iris_cache.specs.Pictures.{Holds, parent_after}
 use Rattle.iris_dirtree.specs.declared.removing.Crumb.{Crumb}
-use Rattle.iris_dirtree.specs.Descents.{IsAmong, Ended, FoundRow}
-use Rattle.iris_dirtree.specs.Hands.{IsRowNode, HoldsTrue}
-use Rattle.iris_dirtree.specs.Needs.{Listed}
+use Rattle.iris_dirtree.specs.Descents.{Ended}
 use Rattle.iris_dirtree.specs.Nodes.{IsPut}
-use Rattle.iris_dirtree.specs.Planted.{IsRowName, Likes, Hang, IsWithin, Stays, Planted, topped, with_top}
-use Rattle.iris_dirtree.specs.Rows.{Row, Content, Directory, File, row_id, entry_of, entries, row_entry, up}
+use Rattle.iris_dirtree.specs.Planted.{IsRowName, Likes, Hang, Stays}
+use Rattle.iris_dirtree.specs.Rows.{Row, entries, row_entry}
 use Rattle.iris_dirtree.specs.Steps.{Step, under, entry_name, above, crumb_above, WasHash, Seat, Seated, Leads, AreCrumbs, Outside, Once, Rising}
-use Rattle.iris_dirtree.specs.Ways.{Any, is_named}
-use Rattle.iris_dirtree.proofs.Begins.{Holder, dir_apart}
-use Rattle.iris_dirtree.proofs.Climbs.{seen_same, parent_same, put_apart, put_seen, put_parent, put_stays, is_there, there_same, seated_same, crumbs_above, above_seen}
+use Rattle.iris_dirtree.proofs.Climbs.{put_apart, put_seen, put_parent, put_stays, is_there, seated_same, crumbs_above, above_seen}
 use Rattle.iris_dirtree.proofs.Likes.{like_row, like_part, leads_over, leads_empty}
-use Rattle.iris_dirtree.proofs.Sees.{Sees, sees_drafts}
 use Rattle.iris_dirtree.proofs.Steps.{once_under}
-use Rattle.iris_dirtree.proofs.Withouts.{any_split, among_each, gone_one, only, any_without, distinct_without, apart_without, is_it, named_parts, once_of, outside_none, outside_not, any_named}
+use Rattle.iris_dirtree.proofs.Withouts.{any_split}
 
 -- ---- what is left at the end moves as a whole
 
@@ -70,7 +60,11 @@ module _ (old : Shown) (c : Resident) (t : Treap Row) where
       let here : IsSome (seen e c n) = is_there (seen e c n) (node.Entry x) sees in
       let E : (w : Treap Row) → Outside n w → Every (λ z. drafted e (entry_name z) ≡ drafted d (entry_name z)) w = λ w o. every_map (λ z. n ≢ entry_name z) (λ z. drafted e (entry_name z) ≡ drafted d (entry_name z)) w (λ z k. off (entry_name z) (λ h. k (sym h))) o in
       record {
-        front = front; done = Over y l m; is = is; crumbs = crumbs; leads = leads;
+        front = front;
+        done = Over y l m;
+        is = is;
+        crumbs = crumbs;
+        leads = leads;
         seated = (
           (λ node' g. same_seat e n (above p front) (row_entry y (entries l) (entries m)) (node.Entry x) node' sees g (record { like = seat.like; parent = hangs; there = stays (above p front) (above_seen old c t d p front es crumbs there); hashes = seat.hashes })),
           (λ none. absurd (not_both (seen e c n) (node.Entry x) sees none)),

@@ -1,34 +1,30 @@
 -- The way down to a row, and down the two treaps beside it.
-use Rattle.std.proofs.Common.{◌≡◌, ◌⊎◌, ◌&&◌, not, inl, inr, ◌++◌, ℕ, Bool, true, false, cond, List, [], ◌∷◌, Option, Some, None, IsSome, refl, ap, sym, ◌∙◌, subst}
+use Rattle.std.proofs.Common.{◌≡◌, ◌&&◌, not, inl, inr, ◌++◌, ℕ, Bool, true, false, cond, List, [], ◌∷◌, Option, Some, None, refl, ap, sym, ◌∙◌, subst}
 use Rattle.std.proofs.lemmas.Bool.{cond-true, cond-false}
-use Rattle.iris_name.specs.declared.name.FileId.{FileId}
-use Rattle.iris_name.specs.declared.name.Hash32.{Hash32}
 use Rattle.iris_name.specs.declared.name.Name.{Name}
 use Rattle.iris_name.specs.declared.name.Name.TheVariants as name
 use Rattle.iris_name.specs.declared.note.Expect.{Expect}
 use Rattle.iris_name.specs.declared.note.Expect.TheVariants.{Hash}
 use Rattle.iris_node.specs.declared.node.Link.{Link}
-use Rattle.iris_node.specs.declared.node.Node.{Node}
 use Rattle.iris_node.specs.declared.node.Node.TheVariants as node
 use Rattle.iris_node.specs.Fields.{EntryFields}
 use Rattle.iris_node.specs.Trees.{Shown}
 use Rattle.iris_node.specs.Unfolded.{id_of}
-use Rattle.iris_shape.specs.Treap.{Treap, Empty, Over, rows, merge, onto, remove, way, near}
+use Rattle.iris_shape.specs.Treap.{Treap, Empty, Over, rows, merge, onto, way}
 use Rattle.iris_shape.specs.Order.{less_name}
 use Rattle.iris_cache.specs.declared.held.Short.{Short}
 use Rattle.iris_cache.specs.declared.held.Short.TheVariants.{Need, NoMemory}
 use Rattle.iris_cache.specs.Resident.{Resident}
 use Rattle.iris_cache.specs.Drafted.{Drafted, known, seen}
-use Rattle.iris_cache.specs.Pictures.{Holds, IsLike}
 use Rattle.iris_dirtree.specs.declared.removing.Crumb.{Crumb}
 use Rattle.iris_dirtree.specs.Needs.{IsWanted}
 use Rattle.iris_dirtree.specs.Nodes.{toward, IsLinkLack}
-use Rattle.iris_dirtree.specs.Rows.{Row, entries, row_entry}
-use Rattle.iris_dirtree.specs.Steps.{Step, over, under, entry_name, above, WasHash, Seat, Seated, Leads, IsCrumb, AreCrumbs}
-use Rattle.iris_dirtree.specs.Descents.{IsWantedLink, WantsBelow, Stands, IsAmong, met_near, taken, Seeking, FoundRow, Joining, Ended, IsStop, Seeks, Joins}
+use Rattle.iris_dirtree.specs.Rows.{Row, entries}
+use Rattle.iris_dirtree.specs.Steps.{Step, over, under, entry_name, above, WasHash, IsCrumb}
+use Rattle.iris_dirtree.specs.Descents.{Stands, IsAmong, met_near, taken, Seeking, FoundRow, Joining, Ended, IsStop, Seeks, Joins}
 use Rattle.iris_dirtree.specs.Ways.{Any, before, is_named}
 use Rattle.iris_dirtree.proofs.Downs.{any_left, any_right}
-use Rattle.iris_dirtree.proofs.Likes.{like_row, LikeRow, leads_over, leads_empty, Top}
+use Rattle.iris_dirtree.proofs.Likes.{like_row, leads_over, leads_empty}
 use Rattle.iris_dirtree.proofs.Rowed.{row_any}
 use Rattle.iris_dirtree.proofs.Steps.{under_more, above_more}
 use Rattle.iris_dirtree.proofs.Climbs.{crumbs_more}
@@ -66,7 +62,13 @@ module _ (old new : Shown) (c : Resident) (t : Treap Row) (d : Drafted) where
       let s2 = subst S top.is s in
       let at2 : seen d c (entry_name top.row) ≡ Some (node.Entry e) = ap (λ i. seen d c (name.Entry i)) (sym top.id_is) ∙ at in
       record {
-        y = top.row; l = top.less; m = top.more; is = top.is; stands = s2; at = at2; id_is = top.id_is;
+        y = top.row;
+        l = top.less;
+        m = top.more;
+        is = top.is;
+        stands = s2;
+        at = at2;
+        id_is = top.id_is;
         name_is = (like_row top.row (entries top.less) (entries top.more) e (s2.seated.0 (node.Entry e) at2).like).name_is;
         reached = s.leads.hash (entry_name top.row) k.hash (ap name.Entry (sym top.id_is), refl);
       }
@@ -144,7 +146,10 @@ module _ (old new : Shown) (c : Resident) (t : Treap Row) (d : Drafted) where
       let is : met_near n (Over y l m) ≡ y ∷ (way (λ _. true) l ++ way (λ _. false) m) = ap (λ w. y ∷ w) (cond-true (is_named n y) (way (λ _. true) l ++ way (λ _. false) m) (cond (before n y) (met_near n m) (met_near n l)) named) in
       let N : (r : Row) → List Row → Type 0 = λ r w. IsAmong r w in
       record {
-        front = s.front; row = y; less = l; more = m;
+        front = s.front;
+        row = y;
+        less = l;
+        more = m;
         is = s.is ∙ ap (λ w. under s.front (taken up n w)) top.is ∙ ap (under s.front) (cond-true (is_named n y) (merge up l m) (cond (before n y) (Over y l (taken up n m)) (Over y (taken up n l) m)) named);
         crumbs = s.crumbs;
         named = named;
@@ -173,7 +178,11 @@ module _ (old new : Shown) (c : Resident) (t : Treap Row) (d : Drafted) where
       let beats = ranks x y top.id_is other.id_is in
       let W : (r : Row) → Treap Row → Type 0 = λ r w. IsAmong r (way (λ _. true) w) in
       record {
-        front = s.front ++ g ∷ []; a = top.m; b = s.b; q = entry_name x; r = s.r;
+        front = s.front ++ g ∷ [];
+        a = top.m;
+        b = s.b;
+        q = entry_name x;
+        r = s.r;
         is = s.is ∙ ap (λ w. under s.front (merge up w s.b)) top.is ∙ ap (λ w. under s.front (merge up (Over x top.l top.m) w)) other.is
             ∙ ap (under s.front) (cond-true (up x y) (Over x top.l (merge up top.m b)) (Over y (onto up x top.l top.m (merge up top.m) other.less) other.more) beats)
             ∙ ap (λ w. under s.front (Over x top.l (merge up top.m w))) (sym other.is) ∙ sym (under_more s.front g (merge up top.m s.b));
@@ -193,7 +202,11 @@ module _ (old new : Shown) (c : Resident) (t : Treap Row) (d : Drafted) where
       let beats = ranks x y other.id_is top.id_is in
       let W : (r : Row) → Treap Row → Type 0 = λ r w. IsAmong r (way (λ _. false) w) in
       record {
-        front = s.front ++ g ∷ []; a = s.a; b = top.l; q = s.q; r = entry_name y;
+        front = s.front ++ g ∷ [];
+        a = s.a;
+        b = top.l;
+        q = s.q;
+        r = entry_name y;
         is = s.is ∙ ap (λ w. under s.front (merge up w s.b)) other.is ∙ ap (λ w. under s.front (merge up a w)) top.is
             ∙ ap (under s.front) (cond-false (up x y) (Over x other.less (merge up other.more (Over y top.l top.m))) (Over y (merge up a top.l) top.m) beats)
             ∙ ap (λ w. under s.front (Over y (merge up w top.l) top.m)) (sym other.is) ∙ sym (under_more s.front g (merge up s.a top.l));
@@ -231,27 +244,36 @@ module _ (old new : Shown) (c : Resident) (t : Treap Row) (d : Drafted) where
 pub seek_stop : (c : Resident) (d : Drafted) (n : List ℕ) (top : Option Link) (es : List Crumb) (k : Link) (e : Short)
     → ((old new : Shown) (t : Treap Row) (p : Name) (up : Row → Row → Bool) → Seeking old new c t d p up n [] top → Seeking old new c t d p up n es (Some k)) → IsLinkLack d c k e → IsStop (Seeks d c n top) d c e
 seek_stop c d n top es k NoMemory seeks lack = tt
-seek_stop c d n top es k (Need m x) seeks lack = (lack.2, (λ old new met s.
-    let now = seeks old new s.t s.p s.up s.seeking in
-    let M : Treap Row → Row → Type 0 = λ w y. IsAmong y (met_near n w) in
-    let r = stands_wanted old new c s.t d (above s.p now.front) k now.rest met m lack.0 lack.2 now.stands (λ y l m is. let A : List Row → Type 0 = IsAmong y in let W : Treap Row → Type 0 = λ w. M w y in subst A (sym s.met_is) (now.met y (subst W (sym is) (inl refl)))) in
-    let W : Expect → Type 0 = λ x. IsWanted old new c m x in
-    (r.0, subst W (sym lack.1) r.1)))
+seek_stop c d n top es k (Need m x) seeks lack = (
+  lack.2,
+  (λ old new met s.
+      let now = seeks old new s.t s.p s.up s.seeking in
+      let M : Treap Row → Row → Type 0 = λ w y. IsAmong y (met_near n w) in
+      let r = stands_wanted old new c s.t d (above s.p now.front) k now.rest met m lack.0 lack.2 now.stands (λ y l m is. let A : List Row → Type 0 = IsAmong y in let W : Treap Row → Type 0 = λ w. M w y in subst A (sym s.met_is) (now.met y (subst W (sym is) (inl refl)))) in
+      let W : Expect → Type 0 = λ x. IsWanted old new c m x in
+      (r.0, subst W (sym lack.1) r.1)),
+)
 
 -- why it stops on its way down two treaps
 pub join_stop : (c : Resident) (d : Drafted) (up : Row → Row → Bool) (start es : List Crumb) (less more : Option Link) (j k : Link) (b : Bool) (e : Short)
     → ((old new : Shown) (t u : Treap Row) (met : List Row) → Joining old new c t d up met u start less more → Joining old new c t d up met u es (Some j) (Some k)) → IsLinkLack d c (cond b j k) e → IsStop (Joins d c up start less more) d c e
 join_stop c d up start es less more j k b NoMemory joins lack = tt
-join_stop c d up start es less more j k true (Need m x) joins lack = (lack.2, (λ old new met s.
-    let now = joins old new s.t s.u met s.joining in
-    let r = stands_wanted old new c s.t d now.q j now.a met m lack.0 lack.2 now.left (λ y l m is. let W : Treap Row → Type 0 = λ w. IsAmong y (way (λ _. true) w) in now.met_less y (subst W (sym is) (inl refl))) in
-    let W : Expect → Type 0 = λ x. IsWanted old new c m x in
-    (r.0, subst W (sym lack.1) r.1)))
-join_stop c d up start es less more j k false (Need m x) joins lack = (lack.2, (λ old new met s.
-    let now = joins old new s.t s.u met s.joining in
-    let r = stands_wanted old new c s.t d now.r k now.b met m lack.0 lack.2 now.right (λ y l m is. let W : Treap Row → Type 0 = λ w. IsAmong y (way (λ _. false) w) in now.met_more y (subst W (sym is) (inl refl))) in
-    let W : Expect → Type 0 = λ x. IsWanted old new c m x in
-    (r.0, subst W (sym lack.1) r.1)))
+join_stop c d up start es less more j k true (Need m x) joins lack = (
+  lack.2,
+  (λ old new met s.
+      let now = joins old new s.t s.u met s.joining in
+      let r = stands_wanted old new c s.t d now.q j now.a met m lack.0 lack.2 now.left (λ y l m is. let W : Treap Row → Type 0 = λ w. IsAmong y (way (λ _. true) w) in now.met_less y (subst W (sym is) (inl refl))) in
+      let W : Expect → Type 0 = λ x. IsWanted old new c m x in
+      (r.0, subst W (sym lack.1) r.1)),
+)
+join_stop c d up start es less more j k false (Need m x) joins lack = (
+  lack.2,
+  (λ old new met s.
+      let now = joins old new s.t s.u met s.joining in
+      let r = stands_wanted old new c s.t d now.r k now.b met m lack.0 lack.2 now.right (λ y l m is. let W : Treap Row → Type 0 = λ w. IsAmong y (way (λ _. false) w) in now.met_more y (subst W (sym is) (inl refl))) in
+      let W : Expect → Type 0 = λ x. IsWanted old new c m x in
+      (r.0, subst W (sym lack.1) r.1)),
+)
 
 -- where the row is found, the two treaps beside it are to be joined
 pub found_joining : (old new : Shown) (c : Resident) (t : Treap Row) (d : Drafted) (up : Row → Row → Bool) (n : List ℕ) (kept : List Crumb) (e : EntryFields) (u : Treap Row) → taken up n t ≡ u → FoundRow old new c t d up n kept e → Joining old new c t d up (met_near n t) u kept e.left e.right

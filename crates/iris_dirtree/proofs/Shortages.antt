@@ -1,34 +1,32 @@
 -- What an insertion lacks is on the way to its name.
-use Rattle.std.proofs.Common.{◌≡◌, ◌⊎◌, inl, inr, ℕ, Bool, true, false, cond, List, [], ◌∷◌, Option, Some, None, IsSome, refl, ap, sym, ◌∙◌, subst}
+use Rattle.std.proofs.Common.{◌≡◌, inl, inr, ℕ, Bool, true, false, cond, List, [], ◌∷◌, Option, Some, None, IsSome, refl, ap, sym, ◌∙◌, subst}
 use Rattle.std.proofs.lemmas.Bool.{cond-true, cond-false}
 use Rattle.iris_name.specs.declared.name.FileId.{FileId}
 use Rattle.iris_name.specs.declared.name.Hash32.{Hash32}
 use Rattle.iris_name.specs.declared.name.Name.{Name}
 use Rattle.iris_name.specs.declared.name.Name.TheVariants as name
-use Rattle.iris_name.specs.declared.note.Expect.{Expect}
 use Rattle.iris_name.specs.declared.note.Expect.TheVariants.{Hash}
 use Rattle.iris_node.specs.declared.node.Link.{Link}
-use Rattle.iris_node.specs.declared.node.Node.{Node}
 use Rattle.iris_node.specs.declared.node.Node.TheVariants as node
-use Rattle.iris_node.specs.Trees.{Shown, IsTree, IsParent, IsAbove}
+use Rattle.iris_node.specs.Trees.{Shown, IsParent, IsAbove}
 use Rattle.iris_node.specs.Unfolded.{Unfolded, id_of}
-use Rattle.iris_shape.specs.Treap.{Treap, Empty, Over, treap, Each}
+use Rattle.iris_shape.specs.Treap.{Treap, Over, treap, Each}
 use Rattle.iris_cache.specs.declared.held.Held.{Held}
 use Rattle.iris_cache.specs.declared.held.Short.{Short}
 use Rattle.iris_cache.specs.declared.held.Short.TheVariants.{Need, NoMemory}
-use Rattle.iris_cache.specs.Resident.{Resident, held}
-use Rattle.iris_cache.specs.Drafted.{Drafted, drafted, known, seen}
+use Rattle.iris_cache.specs.Resident.{Resident}
+use Rattle.iris_cache.specs.Drafted.{Drafted, known, seen}
 use Rattle.iris_cache.specs.Pictures.{IsSettled}
 use Rattle.iris_cache.proofs.Lacking.{unknown}
 use Rattle.iris_dirtree.specs.Rows.{Row, entries, row_entry, up}
 use Rattle.iris_dirtree.specs.Ways.{Any, along, along_name, before, is_named}
-use Rattle.iris_dirtree.specs.Needs.{ListedInHand, IsShort, IsWanted, IsMet, Lacks}
+use Rattle.iris_dirtree.specs.Needs.{ListedInHand, IsShort, IsWanted, IsMet}
 use Rattle.iris_dirtree.specs.Nodes.{dir_top}
-use Rattle.iris_dirtree.specs.Grafts.{Fork, entry_name, forked, around, over, WasHash, Fits, Leads, Passes, Walked, Reached}
-use Rattle.iris_dirtree.specs.Splits.{IsKnown, Lacking, IsLacking, IsWayShort}
-use Rattle.iris_dirtree.proofs.Sees.{Sees, sees_holding, some_node, some_shown, expected_by, parent_resident}
-use Rattle.iris_dirtree.proofs.Likes.{Placed, Roof, roof, placed_rows, above_less, above_more, top_parent}
-use Rattle.iris_dirtree.proofs.Grafting.{fits_of, TopSeen, top_seen, leads_of}
+use Rattle.iris_dirtree.specs.Grafts.{Fork, entry_name, forked, around, over, Fits, Leads, Passes, Reached}
+use Rattle.iris_dirtree.specs.Splits.{Lacking, IsWayShort}
+use Rattle.iris_dirtree.proofs.Sees.{sees_holding, some_node, some_shown, expected_by, parent_resident}
+use Rattle.iris_dirtree.proofs.Likes.{Placed, roof, placed_rows, above_less, above_more, top_parent}
+use Rattle.iris_dirtree.proofs.Grafting.{fits_of, top_seen, leads_of}
 use Rattle.iris_dirtree.proofs.Walks.{lacking_below}
 
 along_by : (P : Row → Type 0) (n : List ℕ) (row : Row) (other t : Treap Row) (b : Bool) → b ≡ before n row → is_named n row ≡ false → Any P (along (before n) (is_named n) t) → Any P (along (before n) (is_named n) (cond b (Over row other t) (Over row t other)))
@@ -105,14 +103,14 @@ module _ (key : List ℕ) (n : List ℕ) (dir : FileId) (x : Row) (d : Drafted) 
         unset = (unknown d c q h.0).0;
         absent = (unknown d c q h.0).1;
         needed = λ old new rows listed.
-          let see = sees_holding old new (Some x) d c listed.was listed.is listed.hand in
-          let t = treap (up key) rows in
-          let root = name.Entry dir in
-          let r = roof new key dir rows listed.rows_are in
-          let fits = fits_of old new d c see known_last all root r.entry t r.live r.above (placed_rows new key dir rows listed.is listed.rows_are) in
-          let lack = h.1 old t fits (leads_of old new d c dir t top see r (top_seen (seen d c root) top top_is)) in
-          let both = lacks_here old new rows q lack.0 listed h.0 lack.2 in
-          (both.0, subst (IsWanted old new c q) (sym lack.1) both.1);
+            let see = sees_holding old new (Some x) d c listed.was listed.is listed.hand in
+            let t = treap (up key) rows in
+            let root = name.Entry dir in
+            let r = roof new key dir rows listed.rows_are in
+            let fits = fits_of old new d c see known_last all root r.entry t r.live r.above (placed_rows new key dir rows listed.is listed.rows_are) in
+            let lack = h.1 old t fits (leads_of old new d c dir t top see r (top_seen (seen d c root) top top_is)) in
+            let both = lacks_here old new rows q lack.0 listed h.0 lack.2 in
+            (both.0, subst (IsWanted old new c q) (sym lack.1) both.1);
       }
 
 -- what is lacking below the seat is lacking on the whole way
@@ -121,8 +119,10 @@ pub short_below : (prio : ℕ → ℕ) (i : FileId) (n : List ℕ) (c : Resident
     → ((old : Shown) (r : Treap Row) (t : Treap Row) (forks : List Fork) → around forks r ≡ t → Fits old c known_last d p t → Fits old c known_last d (over p forks) r)
     → ((q : Name) → IsWayShort n at c d known_last q e) → IsWayShort n top c d known_last p e
 short_below prio i n c d known_last p top at ks last NoMemory reached down h = tt
-short_below prio i n c d known_last p top at ks last (Need q w) reached down h =
-    ((h p).0, λ old t fits leads.
-        let r = reached old t fits leads in
-        let lack = (h (over p r.forks)).1 old r.rest (down old r.rest t r.forks r.walked.is fits) r.walked.leads in
-        (lack.0, lack.1, lacking_below n old c d (λ ss s. over p ss) t r.forks r.rest at ks q lack.0 r.walked lack.2))
+short_below prio i n c d known_last p top at ks last (Need q w) reached down h = (
+  (h p).0,
+  λ old t fits leads.
+      let r = reached old t fits leads in
+      let lack = (h (over p r.forks)).1 old r.rest (down old r.rest t r.forks r.walked.is fits) r.walked.leads in
+      (lack.0, lack.1, lacking_below n old c d (λ ss s. over p ss) t r.forks r.rest at ks q lack.0 r.walked lack.2),
+)

@@ -1,18 +1,10 @@
 -- Each node of a table stands above smaller ones, so none stands above itself.
-use Rattle.std.proofs.Common.{◌≡◌, ◌⊎◌, ◌+◌, ◌<◌, inl, inr, ℕ, Option, Some, None, ap, sym, subst, arith}
+use Rattle.std.proofs.Common.{◌≡◌, ◌⊎◌, ◌<◌, inl, inr, ℕ, Option, Some, None, ap, sym, subst, arith}
 use Rattle.iris_name.specs.declared.name.Name.{Name}
 use Rattle.iris_node.specs.Trees.{Shown, IsTree, IsParent, IsAbove}
 use Rattle.iris_node.specs.Unfolded.{Unfolded, Absent, Folder, Leaf, Even, Split, Stored}
 use Rattle.iris_dirtree.specs.Planted.{IsOver, next, far}
-
--- how many nodes there are at and below one
-abbrev pub size : Unfolded → ℕ
-size (Folder id label less more inside) = 1 + (size less + (size more + size inside))
-size (Leaf id label less more length counter versions) = 1 + (size less + (size more + size versions))
-size (Split file level index low high) = 1 + (size low + size high)
-size Absent = 0
-size (Even version) = 0
-size (Stored version bytes) = 0
+use Rattle.iris_dirtree.specs.Reached.{size}
 
 abbrev pub size_in : Option Unfolded → ℕ
 size_in None = 0

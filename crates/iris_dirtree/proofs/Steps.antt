@@ -1,34 +1,24 @@
 -- Ways down a treap with a treap at their end, and what a draft makes of them.
-use Rattle.std.proofs.Common.{◌≡◌, ◌≢◌, ◌⊎◌, inl, inr, ◌++◌, ◌+◌, ◌-◌, ◌≤◌, ◌<◌, ◌^◌, ℕ, zero, suc, Bool, true, false, cond, List, [], ◌∷◌, Option, Some, None, IsSome, refl, ap, sym, ◌∙◌, subst, arith, length, slice_get}
-use Rattle.iris_name.specs.Names.{same_name}
-use Rattle.iris_name.specs.NameLaws.{same_name-true, same_name-refl}
+use Rattle.std.proofs.Common.{◌≡◌, ◌≢◌, ◌++◌, ◌-◌, ◌≤◌, ◌<◌, ◌^◌, ℕ, suc, Bool, true, false, cond, List, [], ◌∷◌, Option, Some, None, refl, ap, sym, ◌∙◌, subst, arith, length, slice_get}
 use Rattle.iris_name.specs.declared.name.FileId.{FileId}
 use Rattle.iris_name.specs.declared.name.Hash32.{Hash32}
 use Rattle.iris_name.specs.declared.name.Name.{Name}
-use Rattle.iris_name.specs.declared.name.Name.TheVariants as name
 use Rattle.iris_node.specs.declared.node.Body.{Body}
 use Rattle.iris_node.specs.declared.node.Body.TheVariants.{Dir, File as FileBody}
 use Rattle.iris_node.specs.declared.node.Link.{Link}
-use Rattle.iris_node.specs.declared.node.Node.{Node}
 use Rattle.iris_node.specs.declared.node.Node.TheVariants as node
 use Rattle.iris_node.specs.Fields.{EntryFields}
-use Rattle.iris_node.specs.Local.{Lead, led, led_by, local, entry_local}
-use Rattle.iris_node.specs.Trees.{Shown}
-use Rattle.iris_node.specs.Unfolded.{Unfolded, Absent, Folder, Leaf, Even, Split, Stored, id_of, blocks}
-use Rattle.iris_shape.specs.Treap.{Treap, Empty, Over, rows, Each, Every}
+use Rattle.iris_node.specs.Local.{led, led_by, local, entry_local}
+use Rattle.iris_node.specs.Unfolded.{Unfolded, blocks}
+use Rattle.iris_shape.specs.Treap.{Treap, Empty, Over, Every}
 use Rattle.iris_shape.proofs.Treaps.{every_map}
-use Rattle.iris_cache.specs.declared.held.Held.{Held}
-use Rattle.iris_cache.specs.declared.draft.Change.{Change}
-use Rattle.iris_cache.specs.Resident.{Resident, held}
-use Rattle.iris_cache.specs.Drafted.{Drafted, drafted, seen, known_by, there_by, set_to}
-use Rattle.iris_cache.specs.Pictures.{Holds, LinkHolds, BodyHolds, IsHashOf, IsLike, IsSettled, parent_after, parent_by}
+use Rattle.iris_cache.specs.Pictures.{IsLike}
 use Rattle.iris_dirtree.specs.declared.removing.Crumb.{Crumb}
-use Rattle.iris_dirtree.specs.Nodes.{turned, link_blocks, own_blocks, node_blocks, LinksTo}
-use Rattle.iris_dirtree.specs.Planted.{IsWithin}
+use Rattle.iris_dirtree.specs.Nodes.{turned, LinksTo}
 use Rattle.iris_dirtree.specs.Rows.{Row, Content, Directory, File, entry_of, entries, row_entry}
-use Rattle.iris_dirtree.specs.Steps.{Step, over, under, entry_name, above, crumb_above, WasHash, Seat, Seated, Leads, IsCrumb, AreCrumbs, AreNamed, Outside, Once, Rising}
+use Rattle.iris_dirtree.specs.Steps.{Step, over, under, entry_name, above, crumb_above, AreNamed, Outside, Once}
 use Rattle.iris_dirtree.proofs.Blocks.{like_blocks}
-use Rattle.iris_dirtree.proofs.Likes.{like_row, like_part, LikeRow}
+use Rattle.iris_dirtree.proofs.Likes.{like_row}
 
 -- ---- the end of a way
 

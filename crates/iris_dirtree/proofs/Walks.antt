@@ -1,5 +1,5 @@
 -- Ways down a treap of rows, a crumb for each row met.
-use Rattle.std.proofs.Common.{◌≡◌, ◌⊎◌, ◌&&◌, not, ◌++◌, inl, inr, ℕ, Bool, true, false, cond, List, [], ◌∷◌, Option, Some, None, IsSome, refl, ap, sym, ◌∙◌, subst}
+use Rattle.std.proofs.Common.{◌≡◌, ◌&&◌, not, ◌++◌, inl, inr, ℕ, Bool, true, false, cond, List, [], ◌∷◌, Option, Some, None, IsSome, refl, ap, sym, ◌∙◌, subst}
 use Rattle.iris_name.specs.declared.name.FileId.{FileId}
 use Rattle.iris_name.specs.declared.name.Hash32.{Hash32}
 use Rattle.iris_name.specs.declared.name.Name.{Name}
@@ -10,21 +10,19 @@ use Rattle.iris_node.specs.declared.node.Node.TheVariants as node
 use Rattle.iris_node.specs.Fields.{EntryFields}
 use Rattle.iris_node.specs.Local.{led, led_by}
 use Rattle.iris_node.specs.Trees.{Shown}
-use Rattle.iris_node.specs.Unfolded.{id_of}
 use Rattle.iris_shape.specs.Order.{less_name, beats}
-use Rattle.iris_shape.specs.Treap.{Treap, Empty, Over, Each}
+use Rattle.iris_shape.specs.Treap.{Treap, Over, Each}
 use Rattle.iris_cache.specs.declared.held.Short.{Short}
 use Rattle.iris_cache.specs.declared.held.Short.TheVariants.{Need, NoMemory}
 use Rattle.iris_cache.specs.Resident.{Resident}
-use Rattle.iris_cache.specs.Drafted.{Drafted, drafted, known, seen}
+use Rattle.iris_cache.specs.Drafted.{Drafted, known, seen}
 use Rattle.iris_cache.specs.Pictures.{LinkHolds}
 use Rattle.iris_dirtree.specs.declared.inserting.Crumb.{Crumb}
 use Rattle.iris_dirtree.specs.Rows.{Row, entries}
-use Rattle.iris_dirtree.specs.Ways.{before, is_named}
 use Rattle.iris_dirtree.specs.Nodes.{toward, IsLinkLack}
-use Rattle.iris_dirtree.specs.Grafts.{Fork, entry_name, forked, around, over, low_over, high_over, split_over, WasHash, Fit, Fits, Leads, IsCrumb, AreCrumbs, Passes, Walked, TopBelow, Reached}
-use Rattle.iris_dirtree.specs.Splits.{IsRead, Lacking, IsLacking, IsWayShort}
-use Rattle.iris_dirtree.proofs.Likes.{LikeRow, like_row, Top, leads_over, leads_empty}
+use Rattle.iris_dirtree.specs.Grafts.{Fork, entry_name, forked, around, over, low_over, high_over, split_over, WasHash, Fits, Leads, AreCrumbs, Passes, Walked, TopBelow}
+use Rattle.iris_dirtree.specs.Splits.{IsRead, Lacking, IsWayShort}
+use Rattle.iris_dirtree.proofs.Likes.{like_row, leads_over, leads_empty}
 use Rattle.iris_dirtree.proofs.Fitting.{fits_around}
 
 -- ---- lists
@@ -87,17 +85,17 @@ walked_more n old c known d p to t forks rest l ks k fits w read hangs =
     let was : WasHash old c (entry_name row) k.hash = subst (WasHash old c (entry_name row)) (sym read.hash) (subst (λ q. WasHash old c q l.hash) at (w.leads.hash (name.Entry l.id) l.hash (refl, refl))) in
     let named : entry_name row ≡ name.Entry k.node.id = sym at ∙ ap name.Entry (sym read.id) in
     record {
-        fork = s;
-        rest = next;
-        right = refl;
-        name_is = named;
-        id_is = sym like.id_is;
-        walked = record {
-          is = ap (around forks) (fork_is row top.less top.more k.right ∙ sym top.is) ∙ w.is;
-          crumbs = (ks, k, refl, record { right = refl; sees = sees; hash = was; hangs = hangs s refl }, w.crumbs);
-          passed = ((read.right ∙ ap (λ x. less_name x n) like.name_is, sym (ap (λ x. not (less_name x n) && not (less_name n x)) like.name_is) ∙ read.other), w.passed);
-          leads = side_leads old c top.less top.more k.node k.right like.left_is like.right_is (λ h q x. fit.hashes q h (inl x)) (λ h q x. fit.hashes q h (inr (inl x)));
-        };
+      fork = s;
+      rest = next;
+      right = refl;
+      name_is = named;
+      id_is = sym like.id_is;
+      walked = record {
+        is = ap (around forks) (fork_is row top.less top.more k.right ∙ sym top.is) ∙ w.is;
+        crumbs = (ks, k, refl, record { right = refl; sees = sees; hash = was; hangs = hangs s refl }, w.crumbs);
+        passed = ((read.right ∙ ap (λ x. less_name x n) like.name_is, sym (ap (λ x. not (less_name x n) && not (less_name n x)) like.name_is) ∙ read.other), w.passed);
+        leads = side_leads old c top.less top.more k.node k.right like.left_is like.right_is (λ h q x. fit.hashes q h (inl x)) (λ h q x. fit.hashes q h (inr (inl x)));
+      };
     }
 
 -- ---- what a way lacks
@@ -106,39 +104,40 @@ lacking_at : (n : List ℕ) (old : Shown) (c : Resident) (d : Drafted) (to : Lis
 lacking_at n old c d to t forks rest l ks w =
     let top = leads_over rest l w.leads.led_is in
     record {
-        forks = forks;
-        row = top.row;
-        less = top.less;
-        more = top.more;
-        is = ap (around forks) (sym top.is) ∙ w.is;
-        passed = w.passed;
-        there = crumbs_there old c d to forks ks w.crumbs;
-        lacks = ap name.Entry top.id_is;
-        hash = w.leads.hash (name.Entry l.id) l.hash (refl, refl);
+      forks = forks;
+      row = top.row;
+      less = top.less;
+      more = top.more;
+      is = ap (around forks) (sym top.is) ∙ w.is;
+      passed = w.passed;
+      there = crumbs_there old c d to forks ks w.crumbs;
+      lacks = ap name.Entry top.id_is;
+      hash = w.leads.hash (name.Entry l.id) l.hash (refl, refl);
     }
-
 
 pub way_short : (n : List ℕ) (c : Resident) (d : Drafted) (known_last : Name → Type 0) (p : Name) (to : List Fork → Fork → Name) (top : Option Link) (l : Link) (ks : List Crumb) (e : Short) → IsLinkLack d c l e
     → ((old : Shown) → (t : Treap Row) → Fits old c known_last d p t → Leads old c top t → (forks : List Fork) × (rest : Treap Row) × Walked n old c d to t forks rest (Some l) ks) → IsWayShort n top c d known_last p e
 way_short n c d known_last p to top l ks NoMemory lack w = tt
-way_short n c d known_last p to top l ks (Need q x) lack w =
-    (lack.2, λ old t fits leads.
-        let v = w old t fits leads in
-        (l.hash, lack.1, let h = lacking_at n old c d to t v.0 v.1 l ks v.2 in record { forks = h.forks; row = h.row; less = h.less; more = h.more; is = h.is; passed = h.passed; there = h.there; lacks = lack.0 ∙ h.lacks; hash = subst (λ m. WasHash old c m l.hash) (sym lack.0) h.hash }))
+way_short n c d known_last p to top l ks (Need q x) lack w = (
+  lack.2,
+  λ old t fits leads.
+      let v = w old t fits leads in
+      (l.hash, lack.1, let h = lacking_at n old c d to t v.0 v.1 l ks v.2 in record { forks = h.forks; row = h.row; less = h.less; more = h.more; is = h.is; passed = h.passed; there = h.there; lacks = lack.0 ∙ h.lacks; hash = subst (λ m. WasHash old c m l.hash) (sym lack.0) h.hash }),
+)
 
 -- what is lacking below a way is lacking on the whole
 pub lacking_below : (n : List ℕ) (old : Shown) (c : Resident) (d : Drafted) (to : List Fork → Fork → Name) (t : Treap Row) (forks : List Fork) (rest : Treap Row) (at : Option Link) (ks : List Crumb) (q : Name) (h : Hash32) → Walked n old c d to t forks rest at ks → Lacking n old c d rest q h → Lacking n old c d t q h
 lacking_below n old c d to t forks rest at ks q h w k =
     record {
-        forks = k.forks ++ forks;
-        row = k.row;
-        less = k.less;
-        more = k.more;
-        is = around_both k.forks forks (Over k.row k.less k.more) ∙ ap (around forks) k.is ∙ w.is;
-        passed = each_both (Passes n) k.forks forks k.passed w.passed;
-        there = each_both (λ s. IsSome (seen d c (entry_name s.row))) k.forks forks k.there (crumbs_there old c d to forks ks w.crumbs);
-        lacks = k.lacks;
-        hash = k.hash;
+      forks = k.forks ++ forks;
+      row = k.row;
+      less = k.less;
+      more = k.more;
+      is = around_both k.forks forks (Over k.row k.less k.more) ∙ ap (around forks) k.is ∙ w.is;
+      passed = each_both (Passes n) k.forks forks k.passed w.passed;
+      there = each_both (λ s. IsSome (seen d c (entry_name s.row))) k.forks forks k.there (crumbs_there old c d to forks ks w.crumbs);
+      lacks = k.lacks;
+      hash = k.hash;
     }
 
 -- ---- the ends of ways

@@ -1,12 +1,12 @@
 -- Lists of rows without the one of a name.
-use Rattle.std.proofs.Common.{◌≡◌, ◌≢◌, ◌⊎◌, inl, inr, ◌++◌, ◌&&◌, not, ℕ, Bool, true, false, cond, List, [], ◌∷◌, refl, ap, sym, ◌∙◌, subst, true≢false}
+use Rattle.std.proofs.Common.{◌≡◌, ◌≢◌, ◌⊎◌, inl, inr, ◌++◌, ◌&&◌, not, ℕ, Bool, true, false, cond, List, [], ◌∷◌, refl, ap, sym, ◌∙◌, subst}
 use Rattle.std.proofs.lemmas.Bool.{cond-true, cond-false, both_ways}
 use Rattle.iris_name.specs.declared.name.Name.{Name}
 use Rattle.iris_name.specs.declared.name.Name.TheVariants as name
 use Rattle.iris_shape.specs.Order.{less_name, Rising, Distinct}
-use Rattle.iris_shape.specs.Treap.{Treap, Empty, Over, treap, rows, without, Each, Every, Falls, Parts}
+use Rattle.iris_shape.specs.Treap.{Treap, Empty, Over, treap, rows, without, Each, Parts}
 use Rattle.iris_shape.proofs.Orders.{less_not, parts, falls, ranks, all_apart}
-use Rattle.iris_shape.proofs.Treaps.{every_of, each_left, each_right, rows_treap, treap_without}
+use Rattle.iris_shape.proofs.Treaps.{every_of, each_left, each_right, treap_without}
 use Rattle.iris_name.specs.Hmac.{priority}
 use Rattle.iris_dirtree.specs.Descents.{IsAmong, taken}
 use Rattle.iris_dirtree.specs.Planted.{IsRowName}

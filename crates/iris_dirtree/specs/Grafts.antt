@@ -1,22 +1,19 @@
 -- A row put into a treap in place: the way down to its seat, the split along its name below, and the way up.
-use Rattle.std.specs.Prelude.{◌≡◌, ◌⊎◌, ◌++◌, ℕ, Bool, true, false, cond, List, [], ◌∷◌, Option, Some, None, IsSome}
+use Rattle.std.specs.Prelude.{◌≡◌, ◌⊎◌, ◌++◌, ℕ, Bool, true, false, cond, List, [], ◌∷◌, Option, Some}
 use Rattle.iris_name.specs.declared.name.FileId.{FileId}
 use Rattle.iris_name.specs.declared.name.Hash32.{Hash32}
 use Rattle.iris_name.specs.declared.name.Name.{Name}
 use Rattle.iris_name.specs.declared.name.Name.TheVariants as name
-use Rattle.iris_name.specs.declared.note.Expect.TheVariants.{Hash}
 use Rattle.iris_node.specs.declared.node.Link.{Link}
 use Rattle.iris_node.specs.declared.node.Node.{Node}
 use Rattle.iris_node.specs.declared.node.Node.TheVariants as node
 use Rattle.iris_node.specs.Local.{led, led_by}
 use Rattle.iris_node.specs.Trees.{Shown}
-use Rattle.iris_node.specs.Unfolded.{Unfolded, id_of, blocks}
+use Rattle.iris_node.specs.Unfolded.{Unfolded, id_of}
 use Rattle.iris_shape.specs.Order.{beats}
-use Rattle.iris_shape.specs.Treap.{Treap, Empty, Over, Each, low, high}
-use Rattle.iris_cache.specs.declared.held.Short.{Short}
-use Rattle.iris_cache.specs.declared.held.Short.TheVariants.{Need, NoMemory}
+use Rattle.iris_shape.specs.Treap.{Treap, Empty, Over, Each}
 use Rattle.iris_cache.specs.Resident.{Resident, held}
-use Rattle.iris_cache.specs.Drafted.{Drafted, drafted, seen}
+use Rattle.iris_cache.specs.Drafted.{Drafted, seen}
 use Rattle.iris_cache.specs.Pictures.{Holds, IsHashOf, IsLike, IsSettled, LinkHolds, parent_after}
 use Rattle.iris_dirtree.specs.declared.inserting.Crumb.{Crumb}
 use Rattle.iris_dirtree.specs.Rows.{Row, entries, row_entry}

@@ -22,7 +22,10 @@ ghost use Rattle.iris_dirtree.specs.Splits.{IsKnown, IsRead, IsWayShort, IsSplit
 
 use crate::counting::recount;
 use crate::hashes::hash_held;
-use crate::nodes::{between, copy_name, entry_at, id_of, is_named, link_to, set_top, side, stands_above, stands_before, top_of, turn};
+use crate::nodes::{
+    between, copy_name, entry_at, id_of, is_named, link_to, set_top, side, stands_above,
+    stands_before, top_of, turn,
+};
 use iris_cache::{Cache, Draft, Short};
 use iris_mac::Keys;
 use iris_name::{FileId, Hash32, Name, NoMemory, Text};

@@ -21,7 +21,10 @@ ghost use Rattle.iris_dirtree.specs.Ways.{Any, is_named, near_name};
 
 use crate::counting::recount;
 use crate::finding::longest_way;
-use crate::nodes::{copy_entry, entry_at, is_named, link_to, set_top, side, stands_above, stands_before, top_of, turn};
+use crate::nodes::{
+    copy_entry, entry_at, is_named, link_to, set_top, side, stands_above, stands_before, top_of,
+    turn,
+};
 use iris_cache::{Cache, Draft, Short};
 use iris_mac::Keys;
 use iris_name::{FileId, Hash32, Name, NoMemory, Text};

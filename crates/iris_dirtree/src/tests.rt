@@ -1,7 +1,8 @@
 //! A small directory, written out by hand, as it is read.
 
-use crate::{is_directory, plan_after, plan_find, plan_place};
+use crate::{is_directory, plan_after, plan_find, plan_place, plan_remove};
 use iris_cache::{Cache, Draft, Short};
+use iris_mac::Keys;
 use iris_name::{Expect, FileId, Hash32, Name, Text};
 use iris_node::{Node, decode};
 use std::alloc::Global;
@@ -134,5 +135,43 @@ fn lists_by_pages(rt: HostRuntime) -> Result<(), Fail> {
     assert_eq!(rt; page.as_slice().len(), 1);
     let last = page.as_slice().last().ok_or("a last name")?;
     assert_eq!(rt; last.as_str(), "n64");
+    Ok(())
+}
+
+#[test]
+fn takes_rows_out(rt: HostRuntime) -> Result<(), Fail> {
+    let alloc = rt.alloc();
+    let keys = Keys::of(&[0; 32]);
+    let cache = Cache::new(alloc);
+    let mut draft = three_files(alloc, false)?;
+    let taken = plan_remove(
+        alloc,
+        &mut draft,
+        &cache,
+        &keys,
+        FileId(0),
+        &text(alloc, "aaa")?,
+    )?;
+    assert_eq!(rt; taken.id, FileId(4));
+    let found = plan_find(&draft, &cache, FileId(0), &text(alloc, "aaa")?);
+    assert_eq!(rt; found, Ok(None));
+    let found = plan_find(&draft, &cache, FileId(0), &text(alloc, "bbb")?);
+    assert_eq!(rt; found, Ok(Some(FileId(2))));
+    assert_eq!(rt; plan_place(&draft, &cache, 1), Ok(Some((FileId(3), 0))));
+    assert_eq!(rt;
+        plan_place(&draft, &cache, 2),
+        Ok(None),
+        "the counts are lower"
+    );
+    plan_remove(
+        alloc,
+        &mut draft,
+        &cache,
+        &keys,
+        FileId(0),
+        &text(alloc, "ccc")?,
+    )?;
+    let page = plan_after(alloc, &draft, &cache, FileId(0), &text(alloc, "")?, 64)?;
+    assert_eq!(rt; page.as_slice().len(), 1, "the rest moves up");
     Ok(())
 }

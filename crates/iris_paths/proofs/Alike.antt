@@ -1,9 +1,9 @@
 -- Treaps of rows of the same ids and names, and what is met in them.
-use Rattle.std.proofs.Common.{◌≡◌, ◌∙◌, ◌++◌, ℕ, List, [], ◌∷◌, Bool, true, false, cond, Option, Some, None, IsSome, refl, sym, ap, subst, inl, inr}
+use Rattle.std.proofs.Common.{◌≡◌, ◌∙◌, ℕ, List, [], ◌∷◌, Bool, true, false, cond, refl, sym, ap, subst, inl, inr}
 use Rattle.iris_name.specs.declared.name.Name.{Name}
 use Rattle.iris_name.specs.declared.name.Name.TheVariants as name
 use Rattle.iris_node.specs.Unfolded.{Unfolded, Absent, Folder, Leaf, Even, Split, Stored, id_of}
-use Rattle.iris_shape.specs.Treap.{Treap, Empty, Over, Each, Every, way, near}
+use Rattle.iris_shape.specs.Treap.{Treap, Empty, Over, Each, Every, way}
 use Rattle.iris_dirtree.specs.Rows.{Row, Content, Directory, File, entry_of, entries, refilled}
 use Rattle.iris_dirtree.specs.Ways.{Any, along, before, is_named}
 
@@ -56,7 +56,7 @@ module _ (f : Unfolded → Unfolded) (bare : f Absent ≡ Absent)
   alike_by (Over y l m) Empty h = differ (sym (ap (λ v. v.there) (of_row y.id y.name y.content (entries l) (entries m))) ∙ (ap (λ u. (parts u).there) (h ∙ bare) ∙ of_absent))
   alike_by (Over y l m) (Over z k n) h =
       let e : record { there = true; id = y.id; label = y.name; less = entries l; more = entries m } ≡ record { there = true; id = z.id; label = z.name; less = f (entries k); more = f (entries n) }
-          = sym (of_row y.id y.name y.content (entries l) (entries m)) ∙ (ap parts h ∙ keeps z.id z.name z.content (entries k) (entries n)) in
+      = sym (of_row y.id y.name y.content (entries l) (entries m)) ∙ (ap parts h ∙ keeps z.id z.name z.content (entries k) (entries n)) in
       (ap (λ v. v.id) e, ap (λ v. v.label) e, alike_by l k (ap (λ v. v.less) e), alike_by m n (ap (λ v. v.more) e))
 
 pub alike_same : (t u : Treap Row) → entries t ≡ entries u → Alike t u
@@ -80,11 +80,11 @@ any_alike label n Empty Empty same h = h
 any_alike label n Empty (Over z k o) same h = absurd same
 any_alike label n (Over y l m) Empty same h = absurd same
 any_alike label n (Over y l m) (Over z k o) same h = elim h [
-    | inl e ↦ inl (e ∙ ap (λ i. name.Entry (id_of i)) same.0)
-    | inr a ↦
-        let s = picked n (is_named label y) (before label y) (along (before label) (is_named label) m) (along (before label) (is_named label) o) (along (before label) (is_named label) l) (along (before label) (is_named label) k) (any_alike label n m o same.3) (any_alike label n l k same.2) a in
-        inr (subst (λ v. AnyNamed n (cond (is_named label (record { id = z.id; name = v; content = z.content })) [] (cond (before label (record { id = z.id; name = v; content = z.content })) (along (before label) (is_named label) o) (along (before label) (is_named label) k)))) same.1 s)
-  ]
+  | inl e ↦ inl (e ∙ ap (λ i. name.Entry (id_of i)) same.0)
+  | inr a ↦
+      let s = picked n (is_named label y) (before label y) (along (before label) (is_named label) m) (along (before label) (is_named label) o) (along (before label) (is_named label) l) (along (before label) (is_named label) k) (any_alike label n m o same.3) (any_alike label n l k same.2) a in
+      inr (subst (λ v. AnyNamed n (cond (is_named label (record { id = z.id; name = v; content = z.content })) [] (cond (before label (record { id = z.id; name = v; content = z.content })) (along (before label) (is_named label) o) (along (before label) (is_named label) k)))) same.1 s)
+]
 
 ways : (n : Name) (a b : Bool) (x y z w : List Row) → (AnyNamed n x → AnyNamed n y) → (AnyNamed n z → AnyNamed n w) → AnyNamed n (cond a [] (cond b x z)) → AnyNamed n (cond b y w)
 ways n true b x y z w f g h = absurd h

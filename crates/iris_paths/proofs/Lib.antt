@@ -8,3 +8,4 @@ pub mod Welcome
 pub mod Made
 pub mod Moved
 pub mod Alike
+pub mod Reach

@@ -67,7 +67,8 @@ pub new_in_hand : (key : List ℕ) (met : List (List ℕ) → Seen) (d : Drafted
     → Pictured key met d c old new → IsNew id old new → HasRows new key folder rows → ListedInHand key folder (new_row id.0 label dir) d c old new rows
 new_in_hand key met d c old new id folder label dir rows pic fresh has = record {
   was = pic.was;
-  rooted = fresh.0;
+  rooted = fresh.0.0;
+  formed = fresh.0.1;
   is = pic.is;
   hand = holds_new old new id label dir d c fresh.1 pic.drafts;
   rows_are = has;

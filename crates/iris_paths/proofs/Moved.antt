@@ -1,6 +1,8 @@
 -- A row moved under a new name.
 use Rattle.std.proofs.Common.{◌≡◌, ◌<◌, ◌++◌, ◌∙◌, ℕ, List, [], length, Bool, true, false, Option, Some, None, IsSome, refl, sym, ap, subst, inl, inr}
 use Rattle.std.proofs.lemmas.List.{append-nil}
+use Rattle.std.proofs.lemmas.Bool.{eqb-true}
+use Rattle.std.proofs.Common.{eq-eqb, ◌==◌}
 use Rattle.iris_name.specs.declared.name.FileId.{FileId}
 use Rattle.iris_name.specs.declared.name.Name.{Name}
 use Rattle.iris_name.specs.declared.name.Name.TheVariants as name
@@ -13,8 +15,8 @@ use Rattle.iris_node.specs.Fields.{EntryFields}
 use Rattle.std.specs.Option.{option_map}
 use Rattle.iris_node.specs.Local.{Local, FolderAt, LeafAt, SplitAt, local, entry_local}
 use Rattle.iris_node.specs.Trees.{Shown, IsTree}
-use Rattle.iris_node.specs.Unfolded.{Absent}
-use Rattle.iris_shape.specs.Treap.{put, without}
+use Rattle.iris_node.specs.Unfolded.{Absent, id_of}
+use Rattle.iris_shape.specs.Treap.{put, without, treap}
 use Rattle.iris_cache.specs.declared.held.Short.{Short}
 use Rattle.iris_cache.specs.declared.held.Short.TheVariants.{Need, NoMemory}
 use Rattle.iris_cache.specs.declared.draft.Change.{Change}
@@ -25,7 +27,7 @@ use Rattle.iris_plain.specs.declared.checks.Seen.{Seen}
 use Rattle.iris_plain.specs.declared.checks.Seen.TheVariants.{ADirectory, AFile, Nothing, AFileBefore}
 use Rattle.iris_plain.specs.Checks.{unresolved, move_checks, then_error, error_if, is_there}
 use Rattle.iris_plain.specs.Routes.{parent, last, is_top, is_front}
-use Rattle.iris_dirtree.specs.Rows.{Row, Content, Directory, File, HasRows, Rearranges, IsCountable, IsRooted, entry_of}
+use Rattle.iris_dirtree.specs.Rows.{Row, Content, Directory, File, HasRows, Rearranges, IsCountable, entry_of, up}
 use Rattle.iris_dirtree.specs.Hands.{Holding, IsRowNode, HoldsTrue}
 use Rattle.iris_dirtree.specs.Ways.{Any, before, is_named, along_name}
 use Rattle.iris_dirtree.specs.Needs.{Listed, ListedInHand, IsShort, IsMet}
@@ -36,9 +38,12 @@ use Rattle.iris_paths.specs.declared.entering.Place.TheVariants.{In, Not}
 use Rattle.iris_paths.specs.Resolving.{Resolves}
 use Rattle.iris_paths.specs.Pictured.{Pictured, IsOnTrail, IsPathLack, every, AreInSight}
 use Rattle.iris_paths.specs.Following.{Follows, standing_seen, met_seen}
-use Rattle.iris_paths.specs.Entering.{IsPlace}
-use Rattle.iris_paths.specs.Moving.{renamed, Takes, Puts, IsSource, IsMoved, IsCarryShort, IsMoveShort}
-use Rattle.iris_paths.proofs.Alike.{Alike}
+use Rattle.iris_paths.specs.Entering.{IsPlace, Welcomes}
+use Rattle.iris_paths.specs.Making.{IsWhole}
+use Rattle.iris_paths.specs.Moving.{IsMovable, renamed, Takes, Puts, IsSource, IsMoved, IsCarryShort, IsMoveShort}
+use Rattle.iris_dirtree.proofs.Likes.{placed_rows}
+use Rattle.iris_paths.proofs.Alike.{AnyNamed, any_alike}
+use Rattle.iris_paths.proofs.Reach.{same_reach, other_alike, live_along, live_near, live_folder}
 use Rattle.iris_paths.proofs.Steps.{ended}
 use Rattle.iris_paths.proofs.Reaching.{listed}
 use Rattle.iris_paths.proofs.Arriving.{comes, meets_so}
@@ -136,8 +141,8 @@ holds_renamed old new x label d c h = record {
   out = h.out;
 }
 
-in_hand : (key : List ℕ) (into : FileId) (label : List ℕ) (x : Row) (others : List Row) (old mid : Shown) (d : Drafted) (c : Resident) → IsTree old → IsRooted old → IsTree mid → Holding old mid (Some x) d c → HasRows mid key into others → ListedInHand key into (renamed label x) d c old mid others
-in_hand key into label x others old mid d c was rooted is hand has = record { was = was; rooted = rooted; is = is; hand = holds_renamed old mid x label d c hand; rows_are = has }
+in_hand : (key : List ℕ) (into : FileId) (label : List ℕ) (x : Row) (others : List Row) (old mid : Shown) (d : Drafted) (c : Resident) → IsTree old → IsWhole old → IsTree mid → Holding old mid (Some x) d c → HasRows mid key into others → ListedInHand key into (renamed label x) d c old mid others
+in_hand key into label x others old mid d c was rooted is hand has = record { was = was; rooted = rooted.0; formed = rooted.1; is = is; hand = holds_renamed old mid x label d c hand; rows_are = has }
 
 unset_by : (d : Drafted) (c : Resident) (old new : Shown) (n : Name) (o : Option Change) → Drafts old new d c → drafted d n ≡ o → held c n ≡ None → IsSome (old n) → o ≡ None
 unset_by d c old new n None p e absent lived = refl
@@ -154,7 +159,7 @@ module _ (key : List ℕ) (out : FileId) (name : List ℕ) (into : FileId) (labe
 
   pub carries : (f : Drafted) (node : EntryFields) → node ≡ alone entry label
       → ((old new made : Shown) (x : Row) (rows : List Row) → ListedInHand key into x e c old new rows → IsRowNode x node → HoldsTrue old c node → IsTree made → IsCountable made → Rearranges new made key into rows (put (before x.name) x rows) → Drafts old made f c)
-      → (old new mid made : Shown) (x : Row) (rows others : List Row) → IsTree old → IsTree new → Drafts old new d c → IsRooted old → Takes key out name x rows new mid → Puts key into label x others mid made → Drafts old made f c
+      → (old new mid made : Shown) (x : Row) (rows others : List Row) → IsTree old → IsTree new → Drafts old new d c → IsWhole old → Takes key out name x rows new mid → Puts key into label x others mid made → Drafts old made f c
   carries f node same inserted old new mid made x rows others was is drafts rooted t p =
       let h = taken old new mid x rows was is drafts t in
       inserted old mid made (renamed label x) others (in_hand key into label x others old mid e c was rooted t.tree h.0 p.has)
@@ -181,6 +186,32 @@ trail_lacks key from to names d c (Need n x) f h = inl (record {
 })
 trail_lacks key from to names d c NoMemory f h = tt
 
+differ : true ≡ false → ⊥
+differ h = cc
+
+-- what is met towards the new name with the row in hand is reached before
+moved_reach : (key : List ℕ) (met : List (List ℕ) → Seen) (from to : List (List ℕ)) (d : Drafted) (c : Resident) (old new : Shown) → Pictured key met d c old new → (m : IsMovable key from old new) (into : FileId) → Welcomes to into key met new
+    → (others : List Row) → HasRows m.mid key into others → (n : Name) → IsMet into (along_name (last to) key others) n → IsMoved key from to new n × IsSome (new n)
+moved_reach key met from to d c old new pic m into at others then n h = elim h [
+  | inl e ↦ (inr (inl (at.along at.rows n at.has (inl e))), subst (λ k. IsSome (new k)) (sym e) (live_folder into.0 _ (new (name.Entry into)) at.has.entry))
+  | inr k ↦ by (into.0 == m.out.0) refl k
+]
+  where
+    by : (b : Bool) → (into.0 == m.out.0) ≡ b → AnyNamed n (along_name (last to) key others) → IsMoved key from to new n × IsSome (new n)
+    by true e k =
+        let same : into ≡ m.out = ap id_of (eqb-true into.0 m.out.0 e) in
+        let has = subst (λ i. HasRows new key i m.rows) (sym same) m.takes.has in
+        let placed = placed_rows new key m.out m.rows pic.is m.takes.has in
+        same_reach key (last from) (last to) new m.mid m.out m.rows others (λ k. IsMoved key from to new k × IsSome (new k)) m.takes.has m.takes.arranges.rows (subst (λ i. HasRows m.mid key i others) same then) (at.unnamed m.rows has)
+        (λ l a. (inr (inl (at.along m.rows l has (inr a))), live_along new (treap (up key) m.rows) (before (last to)) (is_named (last to)) l placed a))
+        (λ l a. (inr (inr (record { id = m.id; dir = m.out; rows = m.rows; leads = m.leads; has = m.takes.has; met = inr a })), live_near new (treap (up key) m.rows) (before (last from)) (is_named (last from)) l placed a))
+        n k
+    by false e k =
+        let off = λ (z : into.0 ≡ m.out.0). let t = eq-eqb into.0 m.out.0 z in differ (sym t ∙ e) in
+        let same = other_alike key (last from) new m.mid m.out into m.rows others at.rows pic.is m.takes.tree off m.takes.has m.takes.arranges at.has then in
+        let a = any_alike (last to) n (treap (up key) others) (treap (up key) at.rows) same k in
+        (inr (inl (at.along at.rows n at.has (inr a))), live_along new (treap (up key) at.rows) (before (last to)) (is_named (last to)) n (placed_rows new key into at.rows pic.is at.has) a)
+
 pub move_lacks : (key : List ℕ) (from to : List (List ℕ)) (out into : FileId) (d : Drafted) (c : Resident) (e : Short) → IsSource d c from to (In out) → IsPlace d c to (In into) → IsCarryShort key out (last from) into (last to) d c e → IsMoveShort key from to d c e
 move_lacks key from to out into d c (Need n x) source place h = elim h [
   | inl k ↦ inl (record {
@@ -197,8 +228,10 @@ move_lacks key from to out into d c (Need n x) source place h = elim h [
     needed = λ met old new pic m there beyond others leads has.
         let same = (source.3 key met old new pic).1 m.id m.out m.leads in
         let here = (place.2 key met old new pic).one there beyond leads in
-        let w = k.needed old new m.mid m.row m.rows others pic.was pic.is pic.drafts m.rooted (subst (λ i. Takes key i (last from) m.row m.rows new m.mid) same m.takes) (subst (λ i. HasRows m.mid key i others) here has) in
-        (w.0, subst (λ i. IsMet i (along_name (last to) key others) n) (sym here) w.1, w.2);
+        let w = k.needed old new m.mid m.row m.rows others pic.was pic.is pic.drafts m.whole (subst (λ i. Takes key i (last from) m.row m.rows new m.mid) same m.takes) (subst (λ i. HasRows m.mid key i others) here has) in
+        let at = place.2 key met old new pic in
+        let r = moved_reach key met from to d c old new pic m into at others (subst (λ i. HasRows m.mid key i others) here has) n w.1 in
+        (w.0, r.0, record { live = r.1; lived = w.2.lived; expected = w.2.expected; parent = w.2.parent });
   })
 ]
 move_lacks key from to out into d c NoMemory source place h = tt
@@ -209,8 +242,8 @@ pub rest_of_checks : (key : List ℕ) (met : List (List ℕ) → Seen) (from to 
 rest_of_checks key met from to out d c old new rest source pic = moves_on met from to rest source.1 (source.3 key met old new pic).0 source.2
 
 pub moves : (key : List ℕ) (from to : List (List ℕ)) (out into : FileId) (d e : Drafted) (c : Resident) → IsSource d c from to (In out) → IsPlace d c to (In into) → (label other : List ℕ) → label ≡ last from → other ≡ last to
-    → ((old new mid made : Shown) (x : Row) (rows others : List Row) → IsTree old → IsTree new → Drafts old new d c → IsRooted old → Takes key out label x rows new mid → Puts key into other x others mid made → Drafts old made e c)
-    → (met : List (List ℕ) → Seen) (old new mid made : Shown) (id gone there beyond : FileId) (x : Row) (rows others : List Row) → Pictured key met d c old new → IsRooted old → Resolves new key from (At id gone) → Resolves new key (parent to) (At there beyond)
+    → ((old new mid made : Shown) (x : Row) (rows others : List Row) → IsTree old → IsTree new → Drafts old new d c → IsWhole old → Takes key out label x rows new mid → Puts key into other x others mid made → Drafts old made e c)
+    → (met : List (List ℕ) → Seen) (old new mid made : Shown) (id gone there beyond : FileId) (x : Row) (rows others : List Row) → Pictured key met d c old new → IsWhole old → Resolves new key from (At id gone) → Resolves new key (parent to) (At there beyond)
     → Takes key gone (last from) x rows new mid → Puts key there (last to) x others mid made → Drafts old made e c
 moves key from to out into d e c source place label other is was carried met old new mid made id gone there beyond x rows others pic rooted leads leads2 takes puts =
     let same = (source.3 key met old new pic).1 id gone leads in

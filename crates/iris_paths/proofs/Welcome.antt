@@ -130,6 +130,7 @@ module _ (d : Drafted) (c : Resident) (names : List (List ℕ)) (dir : FileId) (
           leads = at.leads;
           one = λ other beyond l. one_directory (parent names) dir other beyond key met new at l;
           allowed = seen_place met names ADirectory Nothing some at.stands (f.2 ∙ ap (met_by new) gone);
+          unnamed = λ rows has. unnamed key old new rows (listed dir rows pic has);
           along = λ rows m has h. on_trail key met old new pic rows m has h;
           rows = r.0;
           has = r.1;

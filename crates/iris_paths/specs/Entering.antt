@@ -12,7 +12,7 @@ use Rattle.iris_plain.specs.declared.checks.Seen.TheVariants.{ADirectory}
 use Rattle.iris_plain.specs.Checks.{unresolved, then_error, error_if, is_file, no_place}
 use Rattle.iris_plain.specs.Routes.{parent, last}
 use Rattle.iris_dirtree.specs.Rows.{Row, HasRows}
-use Rattle.iris_dirtree.specs.Ways.{along_name}
+use Rattle.iris_dirtree.specs.Ways.{IsNamed, along_name}
 use Rattle.iris_dirtree.specs.Needs.{IsDirectory, IsMet}
 use Rattle.iris_paths.specs.declared.resolving.Found.{Found}
 use Rattle.iris_paths.specs.declared.resolving.Found.TheVariants.{At}
@@ -46,6 +46,8 @@ pub record Welcomes (names : List (List ℕ)) (dir : FileId) (key : List ℕ) (m
   -- it is the only one
   pub one : (other beyond : FileId) → Resolves new key (parent names) (At other beyond) → other ≡ dir
   pub allowed : no_place met false names ≡ None
+  -- no row of it has the last name
+  pub unnamed : (rows : List Row) → HasRows new key dir rows → IsNamed rows (last names) None
   pub along : (rows : List Row) (m : Name) → HasRows new key dir rows → IsMet dir (along_name (last names) key rows) m → IsOnTrail key names new m
   pub rows : List Row
   pub has : HasRows new key dir rows

@@ -7,6 +7,7 @@ use Rattle.iris_node.specs.declared.node.Body.{Body}
 use Rattle.iris_node.specs.declared.node.Body.TheVariants as body
 use Rattle.iris_node.specs.Trees.{Shown}
 use Rattle.iris_node.specs.Unfolded.{Absent, Even}
+use Rattle.iris_cache.specs.Laws.{AreFormed}
 use Rattle.iris_dirtree.specs.Rows.{Row, Content, Directory, File, IsRooted}
 
 -- an empty directory, or an empty file
@@ -17,9 +18,13 @@ fresh dir = if dir then Directory Absent else File 0 0 (Even 0)
 abbrev pub new_row : ℕ → List ℕ → Bool → Row
 new_row id label dir = record { id = id; name = label; content = fresh dir }
 
--- An id is new in a table: it stands for nothing. Before, each live node but the roots had a parent.
+-- a table that a change begins with: each live node but the roots has a parent, and what stands below a node is of its kind
+abbrev pub IsWhole : Shown → Type 0
+IsWhole old = IsRooted old × AreFormed old
+
+-- an id is new in a table: it stands for nothing
 abbrev pub IsNew : FileId → Shown → Shown → Type 0
-IsNew id old new = IsRooted old × (new (name.Entry id) ≡ None)
+IsNew id old new = IsWhole old × (new (name.Entry id) ≡ None)
 
 -- the same as the body of an entry
 abbrev pub fresh_body : Bool → Body

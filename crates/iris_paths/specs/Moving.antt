@@ -14,13 +14,14 @@ use Rattle.iris_cache.specs.Pictures.{Drafts}
 use Rattle.iris_plain.specs.declared.checks.Seen.{Seen}
 use Rattle.iris_plain.specs.Checks.{unresolved, move_checks}
 use Rattle.iris_plain.specs.Routes.{parent, last, is_top, is_front}
-use Rattle.iris_dirtree.specs.Rows.{Row, HasRows, Rearranges, IsCountable, IsRooted}
+use Rattle.iris_dirtree.specs.Rows.{Row, HasRows, Rearranges, IsCountable}
 use Rattle.iris_dirtree.specs.Ways.{Any, before, is_named, along_name, near_name}
 use Rattle.iris_dirtree.specs.Needs.{IsDirectory, Listed, IsMet, IsWanted, IsShort}
 use Rattle.iris_paths.specs.declared.resolving.Found.TheVariants.{At}
 use Rattle.iris_paths.specs.declared.entering.Place.{Place}
 use Rattle.iris_paths.specs.declared.entering.Place.TheVariants.{In, Not}
 use Rattle.iris_paths.specs.Resolving.{Resolves}
+use Rattle.iris_paths.specs.Making.{IsWhole}
 use Rattle.iris_paths.specs.Pictured.{Pictured, IsOnTrail, Lacks}
 
 -- a row under another name
@@ -67,7 +68,7 @@ IsMoved key from to t n = IsOnTrail key from t n ⊎ (IsOnTrail key to t n ⊎ I
 -- a plan with the row of a name in hand lacks a name that is met on going down towards the new name
 pub record LacksThen (key : List ℕ) (out : FileId) (name : List ℕ) (into : FileId) (label : List ℕ) (d : Drafted) (c : Resident) (n : Name) (x : Expect) : Type 0 where
   pub absent : held c n ≡ None
-  pub needed : (old new mid : Shown) (row : Row) (rows others : List Row) → IsTree old → IsTree new → Drafts old new d c → IsRooted old → Takes key out name row rows new mid → HasRows mid key into others
+  pub needed : (old new mid : Shown) (row : Row) (rows others : List Row) → IsTree old → IsTree new → Drafts old new d c → IsWhole old → Takes key out name row rows new mid → HasRows mid key into others
       → (drafted d n ≡ None) × IsMet into (along_name label key others) n × IsWanted old mid c n x
 
 -- why moving a row stops
@@ -77,7 +78,7 @@ IsCarryShort key out name into label d c NoMemory = Unit {0}
 
 -- The tables that a renaming speaks of: the row can be taken out.
 pub record IsMovable (key : List ℕ) (from : List (List ℕ)) (old new : Shown) : Type 0 where
-  pub rooted : IsRooted old
+  pub whole : IsWhole old
   pub id : FileId
   pub out : FileId
   pub row : Row
@@ -86,11 +87,11 @@ pub record IsMovable (key : List ℕ) (from : List (List ℕ)) (old new : Shown)
   pub leads : Resolves new key from (At id out)
   pub takes : Takes key out (last from) row rows new mid
 
--- a renaming with the row in hand lacks a name, that is met on going down towards the new name then
+-- A renaming with the row in hand lacks a name. It is one of those that are reached before the row is taken out.
 pub record LacksInHand (key : List ℕ) (from to : List (List ℕ)) (d : Drafted) (c : Resident) (n : Name) (x : Expect) : Type 0 where
   pub absent : held c n ≡ None
   pub needed : (met : List (List ℕ) → Seen) (old new : Shown) → Pictured key met d c old new → (m : IsMovable key from old new) (into beyond : FileId) (others : List Row)
-      → Resolves new key (parent to) (At into beyond) → HasRows m.mid key into others → (drafted d n ≡ None) × IsMet into (along_name (last to) key others) n × IsWanted old m.mid c n x
+      → Resolves new key (parent to) (At into beyond) → HasRows m.mid key into others → (drafted d n ≡ None) × IsMoved key from to new n × IsWanted old new c n x
 
 -- why a renaming stops
 abbrev pub IsMoveShort : List ℕ → List (List ℕ) → List (List ℕ) → Drafted → Resident → Short → Type 0

@@ -8,12 +8,13 @@ ghost use Rattle.iris_cache.specs.Pictures.{Drafts};
 ghost use Rattle.iris_plain.specs.declared.checks.Seen.{Seen as MetSeen};
 ghost use Rattle.iris_plain.specs.Checks.{no_place, move_checks};
 ghost use Rattle.iris_plain.specs.Routes.{parent, last, is_top, is_front};
-ghost use Rattle.iris_dirtree.specs.Rows.{Row, IsRooted};
+ghost use Rattle.iris_dirtree.specs.Rows.{Row};
 ghost use Rattle.iris_dirtree.specs.Needs.{IsDirectory};
 ghost use Rattle.iris_paths.specs.declared.resolving.Found.TheVariants.{At as CameTo};
 ghost use Rattle.iris_paths.specs.Resolving.{Resolves};
 ghost use Rattle.iris_paths.specs.Pictured.{Pictured, AreInSight, IsOnTrail, IsPathLack, every};
 ghost use Rattle.iris_paths.specs.Following.{Follows};
+ghost use Rattle.iris_paths.specs.Making.{IsWhole};
 ghost use Rattle.iris_paths.specs.Moving.{Takes, Puts, IsSource, IsCarryShort, IsMoveShort};
 
 use crate::entering::{Place, place_of};
@@ -96,7 +97,7 @@ fn carry(
     label: &Text,
 ) -> Result<(), Short>
     requires out { IsDirectory draft.old cache.now out }
-    ensures carried { OnOk result ((old new mid made : Shown) (x : Row) (rows others : List Row) → IsTree old → IsTree new → Drafts old new draft.old cache.now → IsRooted old
+    ensures carried { OnOk result ((old new mid made : Shown) (x : Row) (rows others : List Row) → IsTree old → IsTree new → Drafts old new draft.old cache.now → IsWhole old
         → Takes keys.now.order out name.now x rows new mid → Puts keys.now.order into label.now x others mid made → Drafts old made draft.new cache.now) }
     ensures short { IfErr result (IsCarryShort keys.now.order out name.now into label.now draft.old cache.now) }
 {
@@ -121,7 +122,7 @@ pub fn plan_rename(
 ) -> Result<Option<PlainError>, Short>
     ensures verdict { IfOk result (λ r. (met : List (List ℕ) → MetSeen) (old new : Shown) → Pictured keys.now.order met draft.old cache.now old new
         → r ≡ move_checks (is_top from.now) (met from.now) (is_front from.now to.now) (no_place met false to.now)) }
-    ensures moved { IfOk result (λ r. r ≡ None → (met : List (List ℕ) → MetSeen) (old new mid made : Shown) (id out into beyond : SpecId) (x : Row) (rows others : List Row) → Pictured keys.now.order met draft.old cache.now old new → IsRooted old
+    ensures moved { IfOk result (λ r. r ≡ None → (met : List (List ℕ) → MetSeen) (old new mid made : Shown) (id out into beyond : SpecId) (x : Row) (rows others : List Row) → Pictured keys.now.order met draft.old cache.now old new → IsWhole old
         → Resolves new keys.now.order from.now (CameTo id out) → Resolves new keys.now.order (parent to.now) (CameTo into beyond)
         → Takes keys.now.order out (last from.now) x rows new mid → Puts keys.now.order into (last to.now) x others mid made → Drafts old made draft.new cache.now) }
     ensures unchanged { IfOk result (λ r. IsSome r → draft.new ≡ draft.old) }

@@ -1,4 +1,4 @@
-use Rattle.std.proofs.Common.{Option, Some, None, sym, ap, ◌∙◌}
+use Rattle.std.proofs.Common.{sym, ◌∙◌}
 use Rattle.iris_dirtree.proofs.HeldHashes.{true_hash, same_hash}
 use Rattle.iris_dirtree.proofs.hashes.hash_held.Goals as goal
 

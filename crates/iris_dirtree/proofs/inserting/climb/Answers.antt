@@ -1,4 +1,4 @@
-use Rattle.std.proofs.Common.{◌≡◌, ◌≤◌, Some, subst}
+use Rattle.std.proofs.Common.{◌≤◌, Some, subst}
 use Rattle.iris_name.specs.declared.name.Name.TheVariants as name
 use Rattle.iris_shape.specs.Treap.{Each}
 use Rattle.iris_dirtree.specs.declared.inserting.Crumb.{Crumb}

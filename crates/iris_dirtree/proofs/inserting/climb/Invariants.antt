@@ -1,4 +1,4 @@
-use Rattle.std.proofs.Common.{◌≡◌, ◌≤◌, ℕ, List, vec_len}
+use Rattle.std.proofs.Common.{◌≤◌, vec_len}
 use Rattle.iris_name.specs.declared.name.FileId.{FileId}
 use Rattle.iris_name.specs.declared.name.Name.{Name}
 use Rattle.iris_node.specs.Trees.{Shown}
@@ -16,7 +16,7 @@ invariant-loop-crumb l = record {
   linked : 2 ≤ l.link.id.0;
   entries : OnlyEntries l.fn.draft l.draft;
   grown : (old : Shown) → (c : Resident) → (i : FileId) → (d : Drafted) → (p : Name) → (t u : Treap Row) → Growing old c i d p t u → Grows old c i d l.fn.draft p t u l.fn.path.items l.fn.link
-    → Grows old c i d l.draft p t u l.path.items l.link
+      → Grows old c i d l.draft p t u l.path.items l.link;
 }
 
 abbrev pub decreases-loop-crumb : goal.decreases-loop-crumb

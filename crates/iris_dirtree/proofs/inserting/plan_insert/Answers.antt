@@ -1,4 +1,4 @@
-use Rattle.std.proofs.Common.{◌≡◌, ◌≤◌, ◌<◌, sym, ap, ◌∙◌, arith}
+use Rattle.std.proofs.Common.{◌≤◌, ap, ◌∙◌, arith}
 use Rattle.iris_shape.specs.Treap.{keep, skip}
 use Rattle.iris_dirtree.specs.Ways.{before}
 use Rattle.iris_dirtree.proofs.Finishing.{inserted}

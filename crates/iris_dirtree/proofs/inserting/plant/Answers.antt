@@ -1,4 +1,4 @@
-use Rattle.std.proofs.Common.{◌≡◌, ◌∙◌, inl, List, Option, Some, IsSome, refl, ap, sym, subst}
+use Rattle.std.proofs.Common.{◌≡◌, ◌∙◌, inl, List, Some, IsSome, ap, sym, subst}
 use Rattle.std.proofs.lemmas.Result.{err_from_is_err_and}
 use Rattle.iris_name.specs.Hmac.{priority}
 use Rattle.iris_name.specs.declared.name.FileId.{FileId}
@@ -14,7 +14,7 @@ use Rattle.iris_dirtree.specs.Ways.{along_name, before}
 use Rattle.iris_dirtree.specs.Needs.{IsShort, ListedInHand}
 use Rattle.iris_dirtree.specs.Nodes.{between}
 use Rattle.iris_dirtree.specs.Grafts.{Fits, Leads, Reached, WasHash, over}
-use Rattle.iris_dirtree.specs.Splits.{IsKnown, IsSplitWay, IsWayShort}
+use Rattle.iris_dirtree.specs.Splits.{IsKnown, IsSplitWay}
 use Rattle.iris_dirtree.proofs.Sees.{some_node}
 use Rattle.iris_dirtree.proofs.Fitting.{row_node_id, seen_put, fits_around}
 use Rattle.iris_dirtree.proofs.Growth.{only_none, only_more}
@@ -47,7 +47,7 @@ returns-in_err-below-clause-short c =
     let e = c.in_err-below.field-0.0 in
     let a = c.in_ok-above.above in
     let whole = short_below (priority key) i n1 q d known (name.Entry dir) c.in_ok-top.top a.at a.path.items a.last e c.in_ok-above.ensures.reached
-      (λ old rest t forks is fits. fits_around old q known d (name.Entry dir) forks rest (subst (Fits old q known d (name.Entry dir)) (sym is) fits)) c.in_err-below.ensures.short in
+    (λ old rest t forks is fits. fits_around old q known d (name.Entry dir) forks rest (subst (Fits old q known d (name.Entry dir)) (sym is) fits)) c.in_err-below.ensures.short in
     rw (r.1, r.2) (λ x. subst (λ (n : List _). IsShort (ListedInHand key dir x d q) (along_name n key) d q dir e) c.in_ok-name.ensures (short_of key n1 dir x d q known (λ n h. inl h) c.in_ok-top.top c.in_ok-top.ensures.top e whole))
 
 pub returns-clause-entries : goal.returns-clause-entries
@@ -59,7 +59,7 @@ returns-clause-entries c =
     let e = c.set_top.new.draft in
     let h = c.in_ok-halves.halves in
     only_through d d1 e c.in_ok-halves.ensures.entries
-      (only_through d1 d2 e (only_more d1 d1 d2 (Some (name.Entry c.in_ok-above.above.last)) (between h.low h.high c.args.node) (only_none d1) c.in_ok-seat.ensures.set) (only_through d2 d3 e c.in_ok-link.ensures.entries c.in_ok-set_top.ensures.entries))
+    (only_through d1 d2 e (only_more d1 d1 d2 (Some (name.Entry c.in_ok-above.above.last)) (between h.low h.high c.args.node) (only_none d1) c.in_ok-seat.ensures.set) (only_through d2 d3 e c.in_ok-link.ensures.entries c.in_ok-set_top.ensures.entries))
 
 pub returns-clause-planted : goal.returns-clause-planted
 returns-clause-planted c = λ old new made x rows listed is_row holds tree countable re.
@@ -101,5 +101,5 @@ returns-clause-planted c = λ old new made x rows listed is_row holds tree count
     let comes = stays_seen d2 e q (only_through d2 d3 e c.in_ok-link.ensures.entries c.in_ok-set_top.ensures.entries) (name.Entry k.id) come2 in
     let built = built_all key dir x k d q old new made rows n1 all a.path.items js a.last a.at r way in
     let only = only_through d d1 e c.in_ok-halves.ensures.entries
-      (only_through d1 d2 e (only_more d1 d1 d2 (Some (name.Entry a.last)) seat (only_none d1) c.in_ok-seat.ensures.set) (only_through d2 d3 e c.in_ok-link.ensures.entries c.in_ok-set_top.ensures.entries)) in
+    (only_through d1 d2 e (only_more d1 d1 d2 (Some (name.Entry a.last)) seat (only_none d1) c.in_ok-seat.ensures.set) (only_through d2 d3 e c.in_ok-link.ensures.entries c.in_ok-set_top.ensures.entries)) in
     (there, planted key dir x k d q old new made rows n1 all d3 e c.in_ok-link.link top top_is grown built only comes c.in_ok-set_top.ensures.entry c.in_ok-set_top.ensures.frame)

@@ -1,4 +1,4 @@
-use Rattle.std.proofs.Common.{◌≡◌, ◌≤◌, ◌∙◌, cond, Option, Some, sym, subst}
+use Rattle.std.proofs.Common.{◌≤◌, cond, Option, Some, sym, subst}
 use Rattle.iris_name.specs.declared.name.Name.TheVariants as name
 use Rattle.iris_node.specs.declared.node.Link.{Link}
 use Rattle.iris_node.specs.Rules.{IsLinked}
@@ -32,6 +32,6 @@ loop-crumb-preserved c =
       high = subst IsLinked (sym c.chosen_link-high.ensures) (linked_either k.right highs (Some link) inv.high c.in_ok-link.ensures.linked);
       entries = only_more d e1 e2 (Some (name.Entry k.parent)) (turned k.right (cond k.right lows highs) k.node) inv.entries both.1;
       halved = λ n old q i p t splits way.
-        let r = halved_more n old q i d e1 e2 p t splits ks js k lows highs link popped (inv.halved n old q i p t splits way) both.0 both.1 in
-        subst (λ v. Halved n old q i d e2 t js v c.chosen_link-high.result) (sym c.chosen_link-low.ensures) (subst (λ v. Halved n old q i d e2 t js (cond k.right (Some link) lows) v) (sym c.chosen_link-high.ensures) r);
+          let r = halved_more n old q i d e1 e2 p t splits ks js k lows highs link popped (inv.halved n old q i p t splits way) both.0 both.1 in
+          subst (λ v. Halved n old q i d e2 t js v c.chosen_link-high.result) (sym c.chosen_link-low.ensures) (subst (λ v. Halved n old q i d e2 t js (cond k.right (Some link) lows) v) (sym c.chosen_link-high.ensures) r);
     }

@@ -1,4 +1,4 @@
-use Rattle.std.proofs.Common.{◌≡◌, ◌≤◌, ℕ, List, vec_len}
+use Rattle.std.proofs.Common.{◌≤◌, ℕ, List, vec_len}
 use Rattle.iris_name.specs.declared.name.FileId.{FileId}
 use Rattle.iris_name.specs.declared.name.Name.{Name}
 use Rattle.iris_node.specs.Rules.{IsLinked}
@@ -17,7 +17,7 @@ invariant-loop-crumb l = record {
   high : IsLinked l.high;
   entries : OnlyEntries l.fn.draft l.draft;
   halved : (n : List ℕ) → (old : Shown) → (c : Resident) → (i : FileId) → (p : Name) → (t : Treap Row) → Splits n old c i l.fn.draft p t → IsSplitWay n old c i l.fn.draft t l.fn.path.items
-    → Halved n old c i l.fn.draft l.draft t l.path.items l.low l.high
+      → Halved n old c i l.fn.draft l.draft t l.path.items l.low l.high;
 }
 
 abbrev pub decreases-loop-crumb : goal.decreases-loop-crumb

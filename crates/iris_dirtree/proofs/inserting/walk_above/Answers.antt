@@ -1,4 +1,4 @@
-use Rattle.std.proofs.Common.{◌≡◌, ◌≤◌, ◌++◌, ◌∷◌, [], List, Option, Some, false, sym, ap, ◌∙◌, subst}
+use Rattle.std.proofs.Common.{◌≤◌, ◌++◌, ◌∷◌, [], List, Option, sym, ap, ◌∙◌, subst}
 use Rattle.std.proofs.lemmas.Result.{err_from_is_err_and}
 use Rattle.iris_name.specs.Hmac.{priority}
 use Rattle.iris_name.specs.declared.name.Name.TheVariants as name
@@ -24,22 +24,22 @@ loop-step-preserved c =
       rows = subst (λ (v : List Crumb). Each (λ k. 2 ≤ k.node.id.0) v) pushed (each_more (λ k. 2 ≤ k.node.id.0) ks k c.loop-step.invariant.rows (subst (λ i. 2 ≤ i.0) (sym read.id) two));
       linked = c.next-at.ensures.linked;
       walked = λ old t fits leads.
-        let n = c.args.name.now in
-        let q = c.args.cache.now in
-        let d = c.args.draft.now in
-        let p = name.Entry c.args.dir in
-        let known = IsKnown d q c.args.id in
-        let to = λ (ss : List Fork) (s : Fork). over p ss in
-        let was = c.loop-step.invariant.walked old t fits leads in
-        let w = subst (λ (v : Option Link). Walked n old q d to t was.0 was.1 v ks) c.in-Some.is was.2 in
-        let parent = ap name.Entry (c.in_ok-crumb.ensures.parent ∙ same_both k.right c.loop-step.last) ∙ was.3 in
-        let r = walked_more n old q known d p to t was.0 was.1 l ks k fits w read (λ s is. parent) in (
-          r.fork ∷ was.0,
-          r.rest,
-          subst (λ (v : List Crumb). Walked n old q d to t (r.fork ∷ was.0) r.rest c.next-at.result v) pushed (subst (λ (v : Option Link). Walked n old q d to t (r.fork ∷ was.0) r.rest v (ks ++ k ∷ [])) (sym c.next-at.ensures.link) r.walked),
-          ap name.Entry c.id-last.ensures ∙ sym r.name_is,
-          (ap (λ i. beats (priority c.args.keys.now.order) c.args.id.0 i) (r.id_is ∙ ap (λ i. i.0) read.id) ∙ sym c.stands_above.ensures ∙ c.if-stands_above.false, was.4),
-        );
+          let n = c.args.name.now in
+          let q = c.args.cache.now in
+          let d = c.args.draft.now in
+          let p = name.Entry c.args.dir in
+          let known = IsKnown d q c.args.id in
+          let to = λ (ss : List Fork) (s : Fork). over p ss in
+          let was = c.loop-step.invariant.walked old t fits leads in
+          let w = subst (λ (v : Option Link). Walked n old q d to t was.0 was.1 v ks) c.in-Some.is was.2 in
+          let parent = ap name.Entry (c.in_ok-crumb.ensures.parent ∙ same_both k.right c.loop-step.last) ∙ was.3 in
+          let r = walked_more n old q known d p to t was.0 was.1 l ks k fits w read (λ s is. parent) in (
+            r.fork ∷ was.0,
+            r.rest,
+            subst (λ (v : List Crumb). Walked n old q d to t (r.fork ∷ was.0) r.rest c.next-at.result v) pushed (subst (λ (v : Option Link). Walked n old q d to t (r.fork ∷ was.0) r.rest v (ks ++ k ∷ [])) (sym c.next-at.ensures.link) r.walked),
+            ap name.Entry c.id-last.ensures ∙ sym r.name_is,
+            (ap (λ i. beats (priority c.args.keys.now.order) c.args.id.0 i) (r.id_is ∙ ap (λ i. i.0) read.id) ∙ sym c.stands_above.ensures ∙ c.if-stands_above.false, was.4),
+          );
     }
 
 pub returns-in_err-crumb-clause-short : goal.returns-in_err-crumb-clause-short
@@ -51,4 +51,4 @@ returns-in_err-crumb-clause-short c =
     let p = name.Entry c.args.dir in
     let to = λ (ss : List Fork) (s : Fork). over p ss in
     rw (e.1, e.2) (way_short n q d (IsKnown d q c.args.id) p to c.args.top c.in-Some.link c.loop-step.path.items c.in_err-crumb.field-0.0 c.in_err-crumb.ensures.short
-      (λ old t fits leads. let was = c.loop-step.invariant.walked old t fits leads in (was.0, was.1, subst (λ (v : Option Link). Walked n old q d to t was.0 was.1 v c.loop-step.path.items) c.in-Some.is was.2)))
+    (λ old t fits leads. let was = c.loop-step.invariant.walked old t fits leads in (was.0, was.1, subst (λ (v : Option Link). Walked n old q d to t was.0 was.1 v c.loop-step.path.items) c.in-Some.is was.2)))

@@ -15,6 +15,6 @@ invariant-loop-step l = record {
   rows : Each (λ k. 2 ≤ k.node.id.0) l.path.items;
   linked : IsLinked l.at;
   walked : (old : Shown) → (t : Treap Row) → Fits old l.cache (IsKnown l.draft l.cache l.id) l.draft (name.Entry l.fn.dir) t → Leads old l.cache l.fn.top t
-    → (forks : List Fork) × (rest : Treap Row) × Walked l.name old l.cache l.draft (λ ss s. over (name.Entry l.fn.dir) ss) t forks rest l.at l.path.items
-    × (name.Entry l.last ≡ over (name.Entry l.fn.dir) forks) × Each (λ s. beats (priority l.keys.order) l.id.0 s.row.id ≡ false) forks
+      → (forks : List Fork) × (rest : Treap Row) × Walked l.name old l.cache l.draft (λ ss s. over (name.Entry l.fn.dir) ss) t forks rest l.at l.path.items
+      × (name.Entry l.last ≡ over (name.Entry l.fn.dir) forks) × Each (λ s. beats (priority l.keys.order) l.id.0 s.row.id ≡ false) forks;
 }

@@ -14,6 +14,6 @@ invariant-loop-step l = record {
   rows : Each (λ k. 2 ≤ k.node.id.0) l.path.items;
   linked : IsLinked l.at;
   walked : (old : Shown) → (p : Name) → (t : Treap Row) → Fits old l.cache (IsKnown l.draft l.cache l.fn.id) l.draft p t → Leads old l.cache l.fn.top t
-    → (forks : List Fork) × (rest : Treap Row) × Walked l.name old l.cache l.draft (split_over (name.Entry l.fn.id)) t forks rest l.at l.path.items
-    × (name.Entry l.low ≡ low_over (name.Entry l.fn.id) forks) × (name.Entry l.high ≡ high_over (name.Entry l.fn.id) forks)
+      → (forks : List Fork) × (rest : Treap Row) × Walked l.name old l.cache l.draft (split_over (name.Entry l.fn.id)) t forks rest l.at l.path.items
+      × (name.Entry l.low ≡ low_over (name.Entry l.fn.id) forks) × (name.Entry l.high ≡ high_over (name.Entry l.fn.id) forks);
 }

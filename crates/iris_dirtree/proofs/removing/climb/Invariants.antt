@@ -18,7 +18,7 @@ invariant-loop-crumb l = record {
   risen : (old : Shown) → (t u : Treap Row) → (d : Drafted) → Once u → blocks (entries u) < 2 ^ 64 → IsSome (seen d l.cache (name.Entry l.dir))
       → Rising old l.cache t d l.fn.draft (name.Entry l.dir) u l.fn.path.items l.fn.end → Rising old l.cache t d l.draft (name.Entry l.dir) u l.path.items l.link;
   stays : (n : Name) → IsSome (seen l.fn.draft l.cache n) → IsSome (seen l.draft l.cache n);
-  others : (n : Name) → (IsEntryName n → ⊥) → drafted l.draft n ≡ drafted l.fn.draft n
+  others : (n : Name) → (IsEntryName n → ⊥) → drafted l.draft n ≡ drafted l.fn.draft n;
 }
 
 abbrev pub decreases-loop-crumb : goal.decreases-loop-crumb

@@ -52,7 +52,7 @@ pub returns-in_err-node-clause-short : goal.returns-in_err-node-clause-short
 returns-in_err-node-clause-short c =
     let p = err_from_is_err_and c.from_residual.result c.from_residual.ensures.1 in
     let seeks : (old new : Shown) (t : Treap Row) (q : Name) (up : Row → Row → Bool) → Seeking old new c.args.cache.now t c.args.draft.now q up c.args.name.now [] c.args.top
-        → Seeking old new c.args.cache.now t c.args.draft.now q up c.args.name.now c.loop-step.path.items (Some c.in-Some.link) = λ old new t q up start.
+    → Seeking old new c.args.cache.now t c.args.draft.now q up c.args.name.now c.loop-step.path.items (Some c.in-Some.link) = λ old new t q up start.
     let S : Option Link → Type 0 = λ o. Seeking old new c.args.cache.now t c.args.draft.now q up c.args.name.now c.loop-step.path.items o in
     subst S c.in-Some.is (c.loop-step.invariant.seeking old new t q up start) in
     rw (p.1, p.2) (seek_stop c.args.cache.now c.args.draft.now c.args.name.now c.args.top c.loop-step.path.items c.in-Some.link c.in_err-node.field-0.0 seeks c.in_err-node.ensures.short)

@@ -12,5 +12,5 @@ abbrev pub invariant-loop-step : goal.invariant-loop-step
 invariant-loop-step l = record {
   named : AreNamed l.path.items;
   linked : IsLinked l.at;
-  seeking : (old new : Shown) → (t : Treap Row) → (p : Name) → (up : Row → Row → Bool) → Seeking old new l.cache t l.draft p up l.name [] l.fn.top → Seeking old new l.cache t l.draft p up l.name l.path.items l.at
+  seeking : (old new : Shown) → (t : Treap Row) → (p : Name) → (up : Row → Row → Bool) → Seeking old new l.cache t l.draft p up l.name [] l.fn.top → Seeking old new l.cache t l.draft p up l.name l.path.items l.at;
 }

@@ -45,12 +45,12 @@ pub returns-in_err-node-clause-short : goal.returns-in_err-node-clause-short
 returns-in_err-node-clause-short c =
     let p = err_from_is_err_and c.from_residual.result c.from_residual.ensures.1 in
     let joins : (old new : Shown) (t u : Treap Row) (met : List Row) → Joining old new c.args.cache.now t c.args.draft.now (up c.args.keys.now.order) met u c.args.path.items c.args.row.now.left c.args.row.now.right
-        → Joining old new c.args.cache.now t c.args.draft.now (up c.args.keys.now.order) met u c.loop-step.path.items (Some c.in-Some.x) (Some c.in-Some-more.y) = λ old new t u met start.
+    → Joining old new c.args.cache.now t c.args.draft.now (up c.args.keys.now.order) met u c.loop-step.path.items (Some c.in-Some.x) (Some c.in-Some-more.y) = λ old new t u met start.
     let J : Option Link → Option Link → Type 0 = λ o w. Joining old new c.args.cache.now t c.args.draft.now (up c.args.keys.now.order) met u c.loop-step.path.items o w in
     subst (J (Some c.in-Some.x)) c.in-Some-more.is (subst (λ (o : Option Link). J o c.loop-step.more) c.in-Some.is (c.loop-step.invariant.joining old new t u met start)) in
     let K : Link → Type 0 = λ l. IsLinkLack c.args.draft.now c.args.cache.now l c.in_err-node.field-0.0 in
     rw (p.1, p.2) (join_stop c.args.cache.now c.args.draft.now (up c.args.keys.now.order) c.args.path.items c.loop-step.path.items c.args.row.now.left c.args.row.now.right c.in-Some.x c.in-Some-more.y c.stands_above-right.result c.in_err-node.field-0.0
-        joins (subst K c.chosen-link.ensures c.in_err-node.ensures.short))
+    joins (subst K c.chosen-link.ensures c.in_err-node.ensures.short))
 
 pub loop-step-preserved : goal.loop-step-preserved
 loop-step-preserved c =

@@ -12,5 +12,5 @@ invariant-loop-step l = record {
   named : AreNamed l.path.items;
   less : IsLinked l.less;
   more : IsLinked l.more;
-  joining : (old new : Shown) → (t u : Treap Row) → (met : List Row) → Joining old new l.cache t l.draft (up l.keys.order) met u l.fn.path.items l.row.left l.row.right → Joining old new l.cache t l.draft (up l.keys.order) met u l.path.items l.less l.more
+  joining : (old new : Shown) → (t u : Treap Row) → (met : List Row) → Joining old new l.cache t l.draft (up l.keys.order) met u l.fn.path.items l.row.left l.row.right → Joining old new l.cache t l.draft (up l.keys.order) met u l.path.items l.less l.more;
 }
