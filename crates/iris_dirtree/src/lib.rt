@@ -21,4 +21,6 @@ pub use placing::plan_place;
 pub use removing::plan_remove;
 
 #[cfg(test)]
+mod changing_tests;
+#[cfg(test)]
 mod tests;

@@ -9,9 +9,9 @@ use std::alloc::Global;
 use std::test::Fail;
 
 // A link by the id of an entry, 0 where there is none, and the count of blocks there.
-type Lead = (u8, u8);
+pub(crate) type Lead = (u8, u8);
 
-const NONE: Lead = (0, 0);
+pub(crate) const NONE: Lead = (0, 0);
 
 // The hash that is held of an entry here is its id, 32 times.
 fn put_link(bytes: &mut Vec<u8>, (id, blocks): Lead) -> Result<(), Fail> {
@@ -26,7 +26,7 @@ fn put_link(bytes: &mut Vec<u8>, (id, blocks): Lead) -> Result<(), Fail> {
 }
 
 // A root over the topmost entry inside it.
-fn root(alloc: Global, id: u8, top: Lead) -> Result<Node, Fail> {
+pub(crate) fn root(alloc: Global, id: u8, top: Lead) -> Result<Node, Fail> {
     let mut bytes = Vec::new(alloc);
     bytes.extend_from_slice(&[1, 1, 0, 0, 0, 0, 0, 0, 0, id, 0, 0, 0])?;
     put_link(&mut bytes, top)?;
@@ -52,7 +52,7 @@ fn file(
     Ok(decode(alloc, bytes.as_slice())?.ok_or("a file")?)
 }
 
-fn text(alloc: Global, text: &str) -> Result<Text, Fail> {
+pub(crate) fn text(alloc: Global, text: &str) -> Result<Text, Fail> {
     Ok(Text::of(String::from_str(alloc, text)?))
 }
 

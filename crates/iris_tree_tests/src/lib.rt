@@ -4,6 +4,10 @@
 #[cfg(test)]
 mod beside;
 #[cfg(test)]
+mod dice;
+#[cfg(test)]
 mod filling;
+#[cfg(test)]
+mod paths_beside;
 #[cfg(test)]
 mod settling;
