@@ -26,7 +26,7 @@ use Rattle.iris_dirtree.specs.Steps.{Fork, forked, under, entry_name, above, cru
 use Rattle.iris_dirtree.proofs.Likes.{like_row}
 use Rattle.iris_dirtree.proofs.Owned.{seen_same, parent_same, put_seen, put_parent, put_other, still_seen, put_off}
 use Rattle.iris_dirtree.proofs.Steps.{turned_id, under_more, above_more, turned_like, under_blocks, once_over, once_under, outside_over}
-use Rattle.iris_dirtree.proofs.There.{is_there}
+use Rattle.iris_dirtree.proofs.There.{is_there, not_both}
 use Rattle.iris_dirtree.proofs.Fitting.{leads_to, turned_hashes}
 
 -- ---- what a draft says
@@ -160,9 +160,6 @@ module _ (old : Shown) (c : Resident) (t : Treap Row) where
         stays = stays;
       }
     where
-      not_both : (o : Option Node) (x : Node) → o ≡ Some x → o ≡ None → ⊥
-      not_both o x a b = cc
-
       seat : (p : Name) (v : Treap Row) (node' : Node) (n : Name) → seen f c n ≡ Some (node.Entry (turned crumb.right link crumb.node)) → seen f c n ≡ Some node' → IsLike (Some (entries v)) (node.Entry (turned crumb.right link crumb.node)) → parent_after f c n ≡ Some p → IsSome (seen f c p)
           → ((m : Name) (h : Hash32) → Holds (node.Entry (turned crumb.right link crumb.node)) m h → WasHash old c m h) → Seat old c f p n (entries v) node'
       seat p v node' n a b like parent there was =

@@ -1,5 +1,5 @@
 -- On the way up from a child whose count may have changed.
-use Rattle.std.proofs.Common.{◌≡◌, ◌⊎◌, ◌||◌, ◌+◌, inl, inr, ℕ, suc, Bool, true, false, Option, Some, refl, ap, sym, ◌∙◌, subst, length, true≢false}
+use Rattle.std.proofs.Common.{◌≡◌, ◌⊎◌, ◌||◌, ◌+◌, inl, inr, ℕ, suc, true, Option, Some, refl, ap, sym, ◌∙◌, subst, length, true≢false}
 use Rattle.std.specs.Prelude.{IsSome}
 use Rattle.iris_name.specs.Names.{same_name}
 use Rattle.iris_name.specs.NameLaws.{same_name-true, same_name-refl}
@@ -17,6 +17,7 @@ use Rattle.iris_dirtree.specs.Planted.{IsOver, next, far}
 use Rattle.iris_dirtree.specs.Rows.{Row, IsCountable}
 use Rattle.iris_dirtree.proofs.Sizes.{never_over, over_through}
 use Rattle.iris_dirtree.proofs.Recounts.{climbed, parent_made, topmost}
+use Rattle.iris_cache.proofs.Rising.{or-split, or-right}
 
 -- what was met from the start lies below, or is met from here
 pub Left : Shown → (Name → Option Name) → ℕ → ℕ → Name → Name → Type 0
@@ -39,14 +40,6 @@ begins d c start most = record {
   stays = λ n s. s;
   others = λ n s. refl;
 }
-
-or-right : (a b : Bool) → b ≡ true → (a || b) ≡ true
-or-right true b h = refl
-or-right false b h = h
-
-pub or-split : (a b : Bool) → (a || b) ≡ true → (a ≡ true) ⊎ (b ≡ true)
-or-split true b h = inl refl
-or-split false b h = inr h
 
 pub step-up : (over : Name → Option Name) (k : ℕ) (at p q : Name) → over at ≡ Some p → above over k (Some p) q ≡ true → above over (suc k) (Some at) q ≡ true
 step-up over k at p q e m = or-right (same_name at q) (above over k (over at) q) (ap (λ o. above over k o q) e ∙ m)

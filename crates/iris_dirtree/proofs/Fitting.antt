@@ -171,7 +171,7 @@ in_around q (s ∷ ss) t h = in_around q ss (forked s t) (in_forked q s.row s.ot
 
 -- ---- counts of treaps
 
-less_over : (id : ℕ) (label : List ℕ) (c : Content) (a b : Unfolded) → (blocks a ≤ blocks (entry_of id label c a b)) × (blocks b ≤ blocks (entry_of id label c a b))
+pub less_over : (id : ℕ) (label : List ℕ) (c : Content) (a b : Unfolded) → (blocks a ≤ blocks (entry_of id label c a b)) × (blocks b ≤ blocks (entry_of id label c a b))
 less_over id label (Directory inside) a b = (omega arith, omega arith)
 less_over id label (File size counter versions) a b = (omega arith, omega arith)
 

@@ -20,7 +20,8 @@ use Rattle.iris_dirtree.specs.Splits.{IsKnown, Growing, Grows}
 use Rattle.iris_dirtree.proofs.Likes.{like_row}
 use Rattle.iris_dirtree.proofs.Owned.{put_at}
 use Rattle.iris_dirtree.proofs.Fitting.{like_turned, turned_hashes, leads_to, fits_frame, fits_set, fits_around, once_around, few_around, in_around, put_either}
-use Rattle.iris_dirtree.proofs.Halving.{snoc_same, no_snoc, over_known, sees_some}
+use Rattle.iris_dirtree.proofs.Halving.{snoc_same, no_snoc, over_known}
+use Rattle.iris_dirtree.proofs.There.{is_there}
 
 -- ---- what holds whatever is pictured
 
@@ -84,7 +85,7 @@ module _ (old : Shown) (c : Resident) (i : FileId) (d e1 e2 : Drafted) (p : Name
       let id : name.Entry k.node.id ≡ entry_name row = ap (λ j. name.Entry (id_of j)) (like_row row (entries other) (entries was) k.node fit.like).id_is in
       let put2 = subst (λ q. IsPut e1 e2 (Some q) e) crumb.hangs put in
       let hashes = turned_hashes old c k.node true (Some link) fit.hashes leads.hash in
-      let there : IsSome (seen d c (entry_name row)) = sees_some (seen d c (entry_name row)) (node.Entry k.node) crumb.sees in
+      let there : IsSome (seen d c (entry_name row)) = is_there (seen d c (entry_name row)) (node.Entry k.node) crumb.sees in
       let inside : (q : Name) → InRows q other → InRows q t = λ q j. subst (InRows q) wis (in_around q ss T (inr (inl j))) in
       let other_fits = fits_frame old c known d e1 (entry_name row) other (λ q j. untouched was q (touched q) (λ w. O.2 q j w) (inside q j)) F.1 in
       record {
@@ -115,7 +116,7 @@ module _ (old : Shown) (c : Resident) (i : FileId) (d e1 e2 : Drafted) (p : Name
       let id : name.Entry k.node.id ≡ entry_name row = ap (λ j. name.Entry (id_of j)) (like_row row (entries was) (entries other) k.node fit.like).id_is in
       let put2 = subst (λ q. IsPut e1 e2 (Some q) e) crumb.hangs put in
       let hashes = turned_hashes old c k.node false (Some link) fit.hashes leads.hash in
-      let there : IsSome (seen d c (entry_name row)) = sees_some (seen d c (entry_name row)) (node.Entry k.node) crumb.sees in
+      let there : IsSome (seen d c (entry_name row)) = is_there (seen d c (entry_name row)) (node.Entry k.node) crumb.sees in
       let inside : (q : Name) → InRows q other → InRows q t = λ q j. subst (InRows q) wis (in_around q ss T (inr (inr j))) in
       let other_fits = fits_frame old c known d e1 (entry_name row) other (λ q j. untouched was q (touched q) (λ w. O.2 q w j) (inside q j)) F.2 in
       record {

@@ -21,6 +21,7 @@ use Rattle.iris_dirtree.specs.Splits.{IsKnown, IsSplitWay, Splits, Halved, Touch
 use Rattle.iris_dirtree.proofs.Likes.{like_row}
 use Rattle.iris_dirtree.proofs.Fitting.{like_turned, turned_hashes, leads_to, fits_frame, fits_set, fits_around, once_around, few_around, put_either}
 use Rattle.iris_dirtree.proofs.Owned.{put_other}
+use Rattle.iris_dirtree.proofs.There.{is_there}
 
 pub snoc_same : {A : Type 0} (a b : List A) (x y : A) → a ++ x ∷ [] ≡ b ++ y ∷ [] → (a ≡ b) × (x ≡ y)
 snoc_same [] [] x y h = (refl, cc)
@@ -103,16 +104,13 @@ known_cond : (d : Drafted) (c : Resident) (i : FileId) (b : Bool) (x y : Name) �
 known_cond d c i true x y f g = f
 known_cond d c i false x y f g = g
 
-pub sees_some : (o : Option Node) (x : Node) → o ≡ Some x → IsSome o
-sees_some o x h = let P : Option Node → Type 0 = λ o. IsSome o in subst P (sym h) refl
-
 pub low_known : (old : Shown) (c : Resident) (d : Drafted) (to : List Fork → Fork → Name) (i : FileId) (ss : List Fork) (ks : List Crumb) → AreCrumbs old c d to ss ks → IsKnown d c i (low_over (name.Entry i) ss)
 low_known old c d to i [] ks h = inr refl
-low_known old c d to i (s ∷ ss) ks h = known_cond d c i s.right (entry_name s.row) (low_over (name.Entry i) ss) (inl (sees_some (seen d c (entry_name s.row)) (node.Entry h.1.node) h.3.sees)) (low_known old c d to i ss h.0 h.4)
+low_known old c d to i (s ∷ ss) ks h = known_cond d c i s.right (entry_name s.row) (low_over (name.Entry i) ss) (inl (is_there (seen d c (entry_name s.row)) (node.Entry h.1.node) h.3.sees)) (low_known old c d to i ss h.0 h.4)
 
 pub high_known : (old : Shown) (c : Resident) (d : Drafted) (to : List Fork → Fork → Name) (i : FileId) (ss : List Fork) (ks : List Crumb) → AreCrumbs old c d to ss ks → IsKnown d c i (high_over (name.Entry i) ss)
 high_known old c d to i [] ks h = inr refl
-high_known old c d to i (s ∷ ss) ks h = known_cond d c i s.right (high_over (name.Entry i) ss) (entry_name s.row) (high_known old c d to i ss h.0 h.4) (inl (sees_some (seen d c (entry_name s.row)) (node.Entry h.1.node) h.3.sees))
+high_known old c d to i (s ∷ ss) ks h = known_cond d c i s.right (high_over (name.Entry i) ss) (entry_name s.row) (high_known old c d to i ss h.0 h.4) (inl (is_there (seen d c (entry_name s.row)) (node.Entry h.1.node) h.3.sees))
 
 pub over_known : (old : Shown) (c : Resident) (d : Drafted) (to : List Fork → Fork → Name) (i : FileId) (p : Name) (ss : List Fork) (ks : List Crumb) → AreCrumbs old c d to ss ks → IsKnown d c i p → IsKnown d c i (over p ss)
 over_known old c d to i p [] ks h k = k
@@ -162,7 +160,7 @@ module _ (n : List ℕ) (old : Shown) (c : Resident) (i : FileId) (d e1 e2 : Dra
       let put2 = subst (λ q. IsPut e1 e2 (Some q) e) crumb.hangs put in
       let hashes = turned_hashes old c k.node true lows fit.hashes ll.hash in
       let few = few_made row other cur other L ss is (omega arith) (few_lows (before n) cur) in
-      let there : IsSome (seen d c (entry_name row)) = sees_some (seen d c (entry_name row)) (node.Entry k.node) crumb.sees in
+      let there : IsSome (seen d c (entry_name row)) = is_there (seen d c (entry_name row)) (node.Entry k.node) crumb.sees in
       let out_low : InRows (entry_name row) L → ⊥ = λ j. O.1 (in_low (before n) (entry_name row) cur j) in
       let other_fits = fits_frame old c known d e1 (entry_name row) other (λ q j. untouched cur q touched (λ w. O.2 q j w)) F.1 in
       let made = fits_set old c known e1 e2 (low_over (name.Entry i) ss) row other L e id put2 like (low_known old c d (split_over (name.Entry i)) i ss js crumbs) hashes O.0 out_low other_fits lf in
@@ -199,7 +197,7 @@ module _ (n : List ℕ) (old : Shown) (c : Resident) (i : FileId) (d e1 e2 : Dra
       let put2 = subst (λ q. IsPut e1 e2 (Some q) e) crumb.hangs put in
       let hashes = turned_hashes old c k.node false highs fit.hashes hl.hash in
       let few = few_made row cur other H other ss is (few_highs (before n) cur) (omega arith) in
-      let there : IsSome (seen d c (entry_name row)) = sees_some (seen d c (entry_name row)) (node.Entry k.node) crumb.sees in
+      let there : IsSome (seen d c (entry_name row)) = is_there (seen d c (entry_name row)) (node.Entry k.node) crumb.sees in
       let out_high : InRows (entry_name row) H → ⊥ = λ j. O.0 (in_high (before n) (entry_name row) cur j) in
       let other_fits = fits_frame old c known d e1 (entry_name row) other (λ q j. untouched cur q touched (λ w. O.2 q w j)) F.2 in
       let made = fits_set old c known e1 e2 (high_over (name.Entry i) ss) row H other e id put2 like (high_known old c d (split_over (name.Entry i)) i ss js crumbs) hashes out_high O.1 hf other_fits in

@@ -41,7 +41,7 @@ use Rattle.iris_dirtree.proofs.Insertions.{in_any, any_in, once_treap, put_fresh
 use Rattle.iris_dirtree.proofs.Grafting.{fits_of, top_seen, leads_of, likes_fit, hang_fit, hash_fit, stays_fit, few_top, halves_of, Grown}
 use Rattle.iris_dirtree.proofs.Downs.{each_map}
 use Rattle.iris_dirtree.proofs.Owned.{seen_same, parent_same, other_name, stays_seen}
-use Rattle.iris_dirtree.proofs.There.{never_none, is_there}
+use Rattle.iris_dirtree.proofs.There.{never_none, is_there, not_both}
 
 hand_by : (old new : Shown) (d : Drafted) (c : Resident) (i : FileId) (o : Option Change) (w : Option Held) → Sees old new d c → new (name.Entry i) ≡ None → drafted d (name.Entry i) ≡ o → held c (name.Entry i) ≡ w → IsSome (held c (name.Entry i)) ⊎ (old (name.Entry i) ≡ None)
 hand_by old new d c i (Some ch) w see out de he = see.resident (name.Entry i) ch de
@@ -57,11 +57,8 @@ pub hand_hash : (old new : Shown) (d : Drafted) (c : Resident) (i : FileId) (x :
 hand_hash old new d c i x see out h settled u live =
     elim (hand_resident old new d c i see out) [
       | inl r ↦ h r settled u live
-      | inr r ↦ (let P : Option Unfolded → Type 0 = λ o. IsSome o in absurd (no_old (old (name.Entry i)) u live r))
+      | inr r ↦ (let P : Option Unfolded → Type 0 = λ o. IsSome o in absurd (not_both (old (name.Entry i)) u live r))
     ]
-  where
-    no_old : (o : Option Unfolded) (u : Unfolded) → o ≡ Some u → o ≡ None → ⊥
-    no_old o u a b = let q = sym a ∙ b in cc
 
 module _ (key : List ℕ) (dir : FileId) (x : Row) (made_node : EntryFields) (d : Drafted) (c : Resident) (old new made : Shown) (xs : List Row) (n : List ℕ) where
   -- what is known of the tables
@@ -206,10 +203,7 @@ module _ (key : List ℕ) (dir : FileId) (x : Row) (made_node : EntryFields) (d 
     dir_not_x : root ≡ name.Entry made_node.id → ⊥
     dir_not_x h =
         let r = roof new key dir xs all.listed.rows_are in
-        no_live (new root) r.entry r.live (ap new (h ∙ named_id) ∙ all.listed.hand.out)
-      where
-        no_live : (o : Option Unfolded) (w : Unfolded) → o ≡ Some w → o ≡ None → ⊥
-        no_live o w a b = let q = sym a ∙ b in cc
+        not_both (new root) r.entry r.live (ap new (h ∙ named_id) ∙ all.listed.hand.out)
 
     was_rows : (q : Name) → IsRowName xs q → IsRowName (rows t) q
     was_rows q h = subst (λ v. IsRowName v q) (sym (rows_treap (up key) xs)) h

@@ -18,17 +18,14 @@ use Rattle.iris_dirtree.specs.Grafts.{Fork, entry_name, forked, around, InRows, 
 use Rattle.iris_dirtree.proofs.Likes.{Placed, above_less, above_more}
 use Rattle.iris_dirtree.specs.Reached.{size}
 use Rattle.iris_dirtree.proofs.Sizes.{above_larger}
-use Rattle.iris_dirtree.proofs.HeldHashes.{num_of}
 use Rattle.iris_dirtree.proofs.Downs.{any_left, any_right, any_split}
+use Rattle.iris_dirtree.proofs.Withouts.{same_id}
 
 -- ---- lists of rows
 
 pub each_parts : {A : Type 0} (P : A → Type 0) (a : List A) (y : A) (b : List A) → Each P (a ++ y ∷ b) → Each P a × P y × Each P b
 each_parts P [] y b h = (tt, h.0, h.1)
 each_parts P (z ∷ a) y b h = let r = each_parts P a y b h.1 in ((h.0, r.0), r.1, r.2)
-
-same_id : (x y : Row) → entry_name x ≡ entry_name y → x.id ≡ y.id
-same_id x y h = num_of (id_of x.id) (id_of y.id) h
 
 none_named : (z : Row) (xs : List Row) → Each (λ w. z.id ≢ w.id) xs → IsRowName xs (entry_name z) → ⊥
 none_named z [] h i = i

@@ -29,7 +29,7 @@ use Rattle.iris_dirtree.proofs.Likes.{like_row, like_part, leads_over, leads_emp
 use Rattle.iris_dirtree.proofs.Steps.{once_under}
 use Rattle.iris_dirtree.proofs.Downs.{any_split}
 use Rattle.iris_dirtree.proofs.Owned.{put_other, put_seen, put_parent}
-use Rattle.iris_dirtree.proofs.There.{is_there}
+use Rattle.iris_dirtree.proofs.There.{is_there, not_both}
 
 -- ---- what is left at the end moves as a whole
 
@@ -78,9 +78,6 @@ module _ (old : Shown) (c : Resident) (t : Treap Row) where
         stays = stays;
       }
     where
-      not_both : (o : Option Node) (x : Node) → o ≡ Some x → o ≡ None → ⊥
-      not_both o x a b = cc
-
       same_seat : (e : Drafted) (n p : Name) (v : Unfolded) (x y : Node) → seen e c n ≡ Some x → seen e c n ≡ Some y → Seat old c e p n v x → Seat old c e p n v y
       same_seat e n p v x y a b s = let h : x ≡ y = cc in let P : Node → Type 0 = λ x. Seat old c e p n v x in subst P h s
 

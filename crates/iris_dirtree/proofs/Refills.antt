@@ -1,5 +1,5 @@
 -- A node in which a directory has something else inside: what changes lies above that directory.
-use Rattle.std.proofs.Common.{◌≡◌, ◌⊎◌, ◌||◌, ◌==◌, inl, inr, ℕ, Bool, true, false, if◌then◌else◌, List, Some, refl, ap, sym, ◌∙◌, subst, true≢false, is_some}
+use Rattle.std.proofs.Common.{◌≡◌, ◌||◌, ◌==◌, inl, inr, ℕ, Bool, true, false, if◌then◌else◌, List, Some, refl, ap, sym, ◌∙◌, subst, true≢false, is_some}
 use Rattle.std.specs.Option.{option_map}
 use Rattle.std.proofs.lemmas.Bool.{eqb-true}
 use Rattle.iris_name.specs.Names.{same_name}
@@ -15,6 +15,8 @@ use Rattle.iris_dirtree.specs.Planted.{IsOver, next, far}
 use Rattle.iris_dirtree.specs.Rows.{refilled}
 use Rattle.iris_dirtree.proofs.Sizes.{never_over, over_parent, over_lined}
 use Rattle.iris_dirtree.proofs.There.{one_of}
+use Rattle.iris_cache.proofs.Rising.{or-split}
+use Rattle.iris_cache.proofs.Hangs.{or-parts}
 
 -- whether the directory of an id lies at or below
 abbrev pub lies : ℕ → Unfolded → Bool
@@ -25,26 +27,18 @@ lies i (Even version) = false
 lies i (Split file level index low high) = false
 lies i (Stored version bytes) = false
 
-or-false : (a b : Bool) → (a || b) ≡ false → (a ≡ false) × (b ≡ false)
-or-false true b h = absurd (true≢false h)
-or-false false b h = (refl, h)
-
-or-split : (a b : Bool) → (a || b) ≡ true → (a ≡ true) ⊎ (b ≡ true)
-or-split true b h = inl refl
-or-split false b h = inr h
-
 -- where it doesn't lie there, nothing changes
 pub untouched : (i : ℕ) (inside u : Unfolded) → lies i u ≡ false → refilled i inside u ≡ u
 untouched i inside (Folder id label less more kept) h =
-    let a = or-false (id == i) (lies i less || (lies i more || lies i kept)) h in
-    let b = or-false (lies i less) (lies i more || lies i kept) a.1 in
-    let c = or-false (lies i more) (lies i kept) b.1 in
+    let a = or-parts (id == i) (lies i less || (lies i more || lies i kept)) h in
+    let b = or-parts (lies i less) (lies i more || lies i kept) a.1 in
+    let c = or-parts (lies i more) (lies i kept) b.1 in
     let l = untouched i inside less b.0 in
     let m = untouched i inside more c.0 in
     let k : (if id == i then inside else refilled i inside kept) ≡ kept = ap (λ x. if x then inside else refilled i inside kept) a.0 ∙ untouched i inside kept c.1 in
     λ x. Folder id label (l x) (m x) (k x)
 untouched i inside (Leaf id label less more length counter versions) h =
-    let a = or-false (lies i less) (lies i more) h in
+    let a = or-parts (lies i less) (lies i more) h in
     let l = untouched i inside less a.0 in
     let m = untouched i inside more a.1 in
     λ x. Leaf id label (l x) (m x) length counter versions

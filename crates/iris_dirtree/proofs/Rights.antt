@@ -13,7 +13,7 @@ use Rattle.iris_cache.specs.Applied.{above}
 use Rattle.iris_cache.specs.Resident.{Resident}
 use Rattle.iris_cache.specs.Drafted.{Drafted, seen}
 use Rattle.iris_cache.specs.Pictures.{parent_after}
-use Rattle.iris_cache.proofs.Rising.{above-none}
+use Rattle.iris_cache.proofs.Rising.{above-none, or-split}
 use Rattle.iris_cache.proofs.Ways.{over-met}
 use Rattle.iris_dirtree.specs.Counts.{count_of, counted, counted_lead, IsCounted, Recounts}
 use Rattle.iris_dirtree.specs.Hands.{Holding}
@@ -21,7 +21,7 @@ use Rattle.iris_dirtree.specs.Lags.{Lags, IsUpFrom}
 use Rattle.iris_dirtree.specs.Planted.{IsOver, next, far}
 use Rattle.iris_dirtree.specs.Rows.{Row, IsCountable}
 use Rattle.iris_dirtree.proofs.Recounts.{like_said, said_like, said_counted, over_top, out_none, climbed, parent_made, right_said}
-use Rattle.iris_dirtree.proofs.CountsUp.{Climbing, or-split, step-up, at-parent}
+use Rattle.iris_dirtree.proofs.CountsUp.{Climbing, step-up, at-parent}
 use Rattle.iris_dirtree.proofs.Sizes.{never_over, over_parent}
 use Rattle.iris_dirtree.proofs.There.{got, is_there, one_of}
 

@@ -1,5 +1,5 @@
 -- The rows of a treap one by one, each with the treaps below it.
-use Rattle.std.proofs.Common.{◌≡◌, ◌⊎◌, ◌||◌, ◌==◌, ◌++◌, inl, inr, ℕ, Bool, true, false, List, [], ◌∷◌, Option, Some, None, refl, ap, sym, ◌∙◌, subst, true≢false, is_some, eq-eqb}
+use Rattle.std.proofs.Common.{◌≡◌, ◌⊎◌, ◌==◌, ◌++◌, inl, inr, ℕ, true, List, [], ◌∷◌, Option, Some, None, refl, ap, sym, ◌∙◌, subst, true≢false, is_some, eq-eqb}
 use Rattle.std.specs.Prelude.{IsSome}
 use Rattle.std.proofs.lemmas.Bool.{eqb-true}
 use Rattle.iris_name.specs.declared.name.Name.{Name}
@@ -15,6 +15,7 @@ use Rattle.iris_dirtree.specs.Ways.{Any}
 use Rattle.iris_dirtree.proofs.Likes.{Placed, entry_named, above_less, above_more, top_parent}
 use Rattle.iris_dirtree.proofs.Sizes.{over_through}
 use Rattle.iris_dirtree.proofs.There.{one_of}
+use Rattle.iris_cache.proofs.Rising.{or-split, or-left, or-right}
 
 -- ---- lists
 
@@ -46,20 +47,9 @@ row_any P [] y h p = absurd h
 row_any P (x ∷ xs) y (inl h) p = inl (subst P (sym h) p)
 row_any P (x ∷ xs) y (inr h) p = inr (row_any P xs y h p)
 
-or-true : (a b : Bool) → a ≡ true → (a || b) ≡ true
-or-true a b h = ap (λ x. x || b) h
-
-or-right : (a b : Bool) → b ≡ true → (a || b) ≡ true
-or-right true b h = refl
-or-right false b h = h
-
-or-split : (a b : Bool) → (a || b) ≡ true → (a ≡ true) ⊎ (b ≡ true)
-or-split true b h = inl refl
-or-split false b h = inr h
-
 pub has_in : (xs : List Row) (y : Row) → IsIn y xs → has_id y.id xs ≡ true
 has_in [] y h = absurd h
-has_in (x ∷ xs) y (inl h) = or-true (x.id == y.id) (has_id y.id xs) (ap (λ (r : Row). r.id == y.id) h ∙ eq-eqb y.id y.id refl)
+has_in (x ∷ xs) y (inl h) = or-left (x.id == y.id) (has_id y.id xs) (ap (λ (r : Row). r.id == y.id) h ∙ eq-eqb y.id y.id refl)
 has_in (x ∷ xs) y (inr h) = or-right (x.id == y.id) (has_id y.id xs) (has_in xs y h)
 
 pub in_has : (xs : List Row) (i : ℕ) → has_id i xs ≡ true → (y : Row) × IsIn y xs × (y.id ≡ i)

@@ -1,20 +1,20 @@
 -- Ways down a treap with a treap at their end, and what a draft makes of them.
-use Rattle.std.proofs.Common.{◌≡◌, ◌≢◌, ◌++◌, ◌-◌, ◌≤◌, ℕ, suc, Bool, true, false, cond, List, [], ◌∷◌, Option, Some, None, refl, ap, sym, ◌∙◌, arith, length, slice_get}
+use Rattle.std.proofs.Common.{◌≡◌, ◌≢◌, ◌++◌, ◌-◌, ◌≤◌, suc, Bool, true, false, cond, List, [], ◌∷◌, Option, Some, None, refl, ap, sym, ◌∙◌, arith, length, slice_get}
 use Rattle.iris_name.specs.declared.name.FileId.{FileId}
 use Rattle.iris_name.specs.declared.name.Name.{Name}
 use Rattle.iris_node.specs.declared.node.Link.{Link}
 use Rattle.iris_node.specs.declared.node.Node.TheVariants as node
 use Rattle.iris_node.specs.Fields.{EntryFields}
 use Rattle.iris_node.specs.Local.{led, led_by}
-use Rattle.iris_node.specs.Unfolded.{Unfolded, blocks}
+use Rattle.iris_node.specs.Unfolded.{blocks}
 use Rattle.iris_shape.specs.Treap.{Treap, Empty, Over, Every}
 use Rattle.iris_shape.proofs.Treaps.{every_map}
 use Rattle.iris_cache.specs.Pictures.{IsLike}
 use Rattle.iris_dirtree.specs.declared.removing.Crumb.{Crumb}
 use Rattle.iris_dirtree.specs.Nodes.{turned}
-use Rattle.iris_dirtree.specs.Rows.{Row, Content, Directory, File, entry_of, entries}
+use Rattle.iris_dirtree.specs.Rows.{Row, entries}
 use Rattle.iris_dirtree.specs.Steps.{Fork, forked, under, entry_name, above, crumb_above, AreNamed, Outside, Once}
-use Rattle.iris_dirtree.proofs.Fitting.{like_turned}
+use Rattle.iris_dirtree.proofs.Fitting.{like_turned, less_over}
 
 -- ---- the end of a way
 
@@ -64,16 +64,12 @@ turned_like x v w e k h i = by x.right h
 
 -- ---- counts below a way
 
-blocks_sides : (id : ℕ) (label : List ℕ) (c : Content) (l m : Unfolded) → (blocks l ≤ blocks (entry_of id label c l m)) × (blocks m ≤ blocks (entry_of id label c l m))
-blocks_sides id label (Directory inside) l m = (omega arith, omega arith)
-blocks_sides id label (File size counter versions) l m = (omega arith, omega arith)
-
 over_blocks : (x : Fork) (w : Treap Row) → blocks (entries w) ≤ blocks (entries (forked x w))
 over_blocks x w = by x.right
   where
     by : (r : Bool) → blocks (entries w) ≤ blocks (entries (cond r (Over x.row x.other w) (Over x.row w x.other)))
-    by true = (blocks_sides x.row.id x.row.name x.row.content (entries x.other) (entries w)).1
-    by false = (blocks_sides x.row.id x.row.name x.row.content (entries w) (entries x.other)).0
+    by true = (less_over x.row.id x.row.name x.row.content (entries x.other) (entries w)).1
+    by false = (less_over x.row.id x.row.name x.row.content (entries w) (entries x.other)).0
 
 pub under_blocks : (xs : List Fork) (w : Treap Row) → blocks (entries w) ≤ blocks (entries (under xs w))
 under_blocks [] w = omega arith
