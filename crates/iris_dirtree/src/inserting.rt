@@ -21,6 +21,7 @@ ghost use Rattle.iris_dirtree.specs.Grafts.{Fits, Leads, Reached};
 ghost use Rattle.iris_dirtree.specs.Splits.{IsKnown, IsRead, IsWayShort, IsSplitWay, Splits, Halved, Growing, Grows};
 
 use crate::counting::recount;
+use crate::finding::longest_way;
 use crate::hashes::hash_held;
 use crate::nodes::{
     between, copy_name, entry_at, id_of, is_named, link_to, set_top, side, stands_above,
@@ -70,13 +71,6 @@ struct Above {
 struct Halves {
     low: Option<Link>,
     high: Option<Link>,
-}
-
-// How many names are known: no way of seen entries is longer.
-fn most_seen(draft: &Draft, cache: &Cache) -> u64
-    ensures { result < 2 ^ 33 }
-{
-    u64::from(draft.count()) + u64::from(cache.count())
 }
 
 // The first id, or the second.
@@ -148,7 +142,7 @@ fn walk_above(
     let mut path = Vec::new(alloc);
     let mut last = dir;
     let mut at = top;
-    for step in 0..most_seen(draft, cache) + 1 {
+    for step in 0..longest_way(draft, cache) + 1 {
         let Some(link) = at else {
             return Ok(Above { path, last, at });
         };
@@ -182,7 +176,7 @@ fn walk_below(
     let mut low = id;
     let mut high = id;
     let mut at = top;
-    for step in 0..most_seen(draft, cache) + 1 {
+    for step in 0..longest_way(draft, cache) + 1 {
         let Some(link) = at else {
             return Ok(path);
         };
