@@ -19,8 +19,3 @@ pub use laws::{given_up, new_row_in_hand, nothing_in_hand};
 pub use listing::plan_after;
 pub use placing::plan_place;
 pub use removing::plan_remove;
-
-#[cfg(test)]
-mod changing_tests;
-#[cfg(test)]
-mod tests;

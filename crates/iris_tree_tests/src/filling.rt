@@ -3,9 +3,9 @@
 ghost use Rattle.std.specs.Prelude.{◌<◌, ◌≤◌};
 ghost use Rattle.iris_version_tree.specs.Versions.{places};
 
-use iris_cache::{Cache, Draft, Held, Short};
+use iris_cache::{Cache, Draft, Short};
 use iris_name::{Bytes, Expect, FileId, Hash32, Name};
-use iris_node::{Body, Link, Node, decode, encode, hash_of};
+use iris_node::{decode, hash_of};
 use iris_version_tree::{is_file, plan_set};
 use std::alloc::Global;
 use std::test::Fail;
@@ -24,59 +24,8 @@ pub(crate) fn record_of<'a>(records: &'a [(Name, Bytes)], name: &Name) -> Option
     None
 }
 
-// Whether a resident node has the record that the table has of its name.
-pub(crate) fn has_its_record(
-    alloc: Global,
-    held: &Held,
-    records: &[(Name, Bytes)],
-) -> Result<bool, Fail> {
-    let own = encode(alloc, &held.node)?;
-    match record_of(records, &held.node.name()) {
-        Some(record) => Ok(record == own.as_slice()),
-        None => Ok(false),
-    }
-}
-
-fn leads_to(link: Option<Link>, id: FileId) -> bool {
-    match link {
-        Some(link) => link.id == id,
-        None => false,
-    }
-}
-
-fn links_to(node: &Node, id: FileId) -> bool {
-    let Node::Entry(entry) = node else {
-        return false;
-    };
-    if leads_to(entry.left, id) || leads_to(entry.right, id) {
-        return true;
-    }
-    match entry.body {
-        Body::Dir { top } => leads_to(top, id),
-        Body::File { .. } => false,
-    }
-}
-
-// The resident entry that links to another.
-fn over_entry(cache: &Cache, id: FileId) -> Option<Name> {
-    for i in 0..cache.count() {
-        let (name, held) = cache.at(i);
-        if links_to(&held.node, id) {
-            return Some(*name);
-        }
-    }
-    None
-}
-
-fn is_root(name: &Name) -> bool {
-    match *name {
-        Name::Entry { id } => id.0 < 2,
-        _ => false,
-    }
-}
-
 // The part or the entry directly over a part.
-fn over_part(name: &Name) -> Option<Name> {
+fn over(name: &Name) -> Option<Name> {
     match *name {
         Name::Part { file, level, .. } if level >= 16 => Some(Name::Entry { id: file }),
         Name::Part { file, level, index } => Some(Name::Part {
@@ -113,18 +62,8 @@ pub(crate) fn cache_of(alloc: Global, records: &[(Name, Bytes)]) -> Result<Cache
     Ok(cache)
 }
 
-// The resident name directly over one that isn't a root.
-fn over(cache: &Cache, name: &Name) -> Option<Name> {
-    let over = match *name {
-        Name::Entry { id } => over_entry(cache, id)?,
-        _ => over_part(name)?,
-    };
-    cache.find(&over)?;
-    Some(over)
-}
-
-// Takes in what a plan lacks: a record with the hash that it expects, whose parent is resident. A root has no parent, and any hash.
-pub(crate) fn fetch(
+// Takes in what a plan lacks: a record with the hash that it expects, whose parent is resident.
+fn fetch(
     alloc: Global,
     cache: &mut Cache,
     records: &[(Name, Bytes)],
@@ -132,32 +71,14 @@ pub(crate) fn fetch(
     hash: Hash32,
 ) -> Result<(), Fail> {
     let record = record_of(records, name).ok_or("a name that isn't live")?;
-    if is_root(name) {
-        return take_in(alloc, cache, None, record);
-    }
     if hash_of(record) != hash {
         return Err("another hash".into());
     }
-    let parent = over(cache, name).ok_or("its parent isn't resident")?;
-    take_in(alloc, cache, Some(parent), record)
-}
-
-// The name that a plan lacks, and the hash that it expects.
-pub(crate) fn need(short: Short) -> Result<(Name, Hash32), Fail> {
-    match short {
-        Short::Need {
-            name,
-            expect: Expect::Hash(hash),
-        } => Ok((name, hash)),
-        _ => Err("no hash is expected".into()),
+    let parent = over(name).ok_or("no part")?;
+    if cache.find(&parent).is_none() {
+        return Err("its parent isn't resident".into());
     }
-}
-
-// Makes a draft.
-pub(crate) fn land(cache: &mut Cache, draft: Draft) -> Result<(), Fail> {
-    cache.room_for(&draft)?;
-    cache.apply(draft);
-    Ok(())
+    take_in(alloc, cache, Some(parent), record)
 }
 
 // What a plan lacks, or none where it was made.
@@ -177,10 +98,17 @@ fn lack(
     }
     match plan_set(alloc, &mut draft, cache, FILE, low, high, version) {
         Ok(()) => {
-            land(cache, draft)?;
+            cache.room_for(&draft)?;
+            cache.apply(draft);
             Ok(None)
         }
-        Err(short) => Ok(Some(need(short)?)),
+        Err(
+            Short::Need {
+                name,
+                expect: Expect::Hash(hash),
+            },
+        ) => Ok(Some((name, hash))),
+        Err(_) => Err("no hash is expected".into()),
     }
 }
 

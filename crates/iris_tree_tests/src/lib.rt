@@ -4,10 +4,6 @@
 #[cfg(test)]
 mod beside;
 #[cfg(test)]
-mod dice;
-#[cfg(test)]
 mod filling;
-#[cfg(test)]
-mod paths_beside;
 #[cfg(test)]
 mod settling;

@@ -93,48 +93,6 @@ pub(crate) fn settle_parts(alloc: Global, cache: &mut Cache) -> Result<(), Fail>
     Ok(())
 }
 
-// All resident names.
-pub(crate) fn residents(alloc: Global, cache: &Cache) -> Result<Vec<Name>, Fail> {
-    let mut names = Vec::new(alloc);
-    for i in 0..cache.count() {
-        let (name, _) = cache.at(i);
-        names.push(*name)?;
-    }
-    Ok(names)
-}
-
-// Settles all nodes whose children are settled.
-fn settle_leaves(alloc: Global, cache: &mut Cache) -> Result<(), Fail> {
-    let names = residents(alloc, cache)?;
-    for name in names.as_slice() {
-        if !is_settled(cache, name) && has_settled_children(cache, name) {
-            settle(alloc, cache, name)?;
-        }
-    }
-    Ok(())
-}
-
-fn are_settled(cache: &Cache) -> bool {
-    for i in 0..cache.count() {
-        let (_, held) = cache.at(i);
-        if !held.settled {
-            return false;
-        }
-    }
-    true
-}
-
-// Settles all nodes, from the leaves up.
-pub(crate) fn settle_all(alloc: Global, cache: &mut Cache) -> Result<(), Fail> {
-    for _ in 0..cache.count() {
-        if are_settled(cache) {
-            return Ok(());
-        }
-        settle_leaves(alloc, cache)?;
-    }
-    Ok(())
-}
-
 // Lets a node go, where nothing keeps it. Tells whether it went.
 pub(crate) fn let_go(cache: &mut Cache, name: &Name) -> bool {
     match cache.find(name) {
