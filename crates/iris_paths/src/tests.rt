@@ -82,79 +82,136 @@ fn page(alloc: Global, cache: &Cache, words: &str, after: &str) -> Result<Option
     }
 }
 
+// One request of a test: a path to make, or to move where a second one is named; a new id; and the answer.
+#[derive(Clone, Copy)]
+struct Step {
+    path: &'static str,
+    to: &'static str,
+    id: u64,
+    dir: bool,
+    answer: Option<PlainError>,
+}
+
+fn made(path: &'static str, id: u64, dir: bool, answer: Option<PlainError>) -> Step {
+    Step {
+        path,
+        to: "",
+        id,
+        dir,
+        answer,
+    }
+}
+
+fn moved(path: &'static str, to: &'static str, answer: Option<PlainError>) -> Step {
+    Step {
+        path,
+        to,
+        id: 0,
+        dir: false,
+        answer,
+    }
+}
+
+fn answers(alloc: Global, cache: &mut Cache, step: Step) -> Result<bool, Fail> {
+    let answer = if step.to.is_empty() {
+        make(alloc, cache, step.path, step.id, step.dir)?
+    } else {
+        rename(alloc, cache, step.path, step.to)?
+    };
+    Ok(answer == step.answer)
+}
+
+// The first step that is answered otherwise.
+fn run(alloc: Global, cache: &mut Cache, steps: &[Step]) -> Result<Option<usize>, Fail> {
+    for (i, step) in steps.iter().enumerate() {
+        if !answers(alloc, cache, *step)? {
+            return Ok(Some(i));
+        }
+    }
+    Ok(None)
+}
+
+// What is told of a path.
+fn told(alloc: Global, cache: &Cache, words: &str) -> Result<Reply, Fail> {
+    let draft = Draft::new(alloc);
+    let path = path(alloc, words)?;
+    Ok(plan_stat(&draft, cache, &path)?)
+}
+
+// The first step that is answered otherwise, on a cache with an empty root.
+fn run_fresh(alloc: Global, steps: &[Step]) -> Result<Option<usize>, Fail> {
+    let mut cache = fresh(alloc)?;
+    run(alloc, &mut cache, steps)
+}
+
 // Checks in another order than the table of requests has them.
 #[test]
 fn tells_the_first_error(rt: HostRuntime) -> Result<(), Fail> {
-    let alloc = rt.alloc();
-    let mut cache = fresh(alloc)?;
-    assert_eq!(rt;
-        make(alloc, &mut cache, "/", 2, true)?,
-        Some(PlainError::Exists)
-    );
-    assert_eq!(rt; make(alloc, &mut cache, "/a", 2, true)?, None);
-    assert_eq!(rt; make(alloc, &mut cache, "/b", 3, true)?, None);
-    assert_eq!(rt;
-        rename(alloc, &mut cache, "/a", "/a/c")?,
-        Some(PlainError::IntoSelf)
-    );
-    assert_eq!(rt;
-        rename(alloc, &mut cache, "/a", "/b")?,
-        Some(PlainError::Exists)
-    );
-    assert_eq!(rt;
-        rename(alloc, &mut cache, "/a", "/a")?,
-        Some(PlainError::Exists)
-    );
-    assert_eq!(rt;
-        rename(alloc, &mut cache, "/", "/c")?,
-        Some(PlainError::BadPath)
-    );
-    assert_eq!(rt;
-        rename(alloc, &mut cache, "/x", "/x/y")?,
-        Some(PlainError::NotFound)
-    );
-    assert_eq!(rt; make(alloc, &mut cache, "/f", 4, false)?, None);
-    assert_eq!(rt;
-        make(alloc, &mut cache, "/f/g", 5, false)?,
-        Some(PlainError::NotDir)
-    );
-    assert_eq!(rt; page(alloc, &cache, "/f", "")?, None);
+    let steps = [
+        made("/", 2, true, Some(PlainError::Exists)),
+        made("/a", 2, true, None),
+        made("/b", 3, true, None),
+        moved("/a", "/a/c", Some(PlainError::IntoSelf)),
+        moved("/a", "/b", Some(PlainError::Exists)),
+        moved("/a", "/a", Some(PlainError::Exists)),
+        moved("/", "/c", Some(PlainError::BadPath)),
+        moved("/x", "/x/y", Some(PlainError::NotFound)),
+        made("/f", 4, false, None),
+        made("/f/g", 5, false, Some(PlainError::NotDir)),
+    ];
+    assert_eq!(rt; run_fresh(rt.alloc(), &steps)?, None);
     Ok(())
+}
+
+// Whether a file that is moved is told where it is, and no more where it was.
+fn moves(alloc: Global) -> Result<bool, Fail> {
+    let mut cache = fresh(alloc)?;
+    let steps = [
+        made("/a", 2, true, None),
+        made("/a/f", 3, false, None),
+        made("/b", 4, true, None),
+        moved("/a/f", "/b/g", None),
+    ];
+    let done = run(alloc, &mut cache, &steps)?;
+    let gone = told(alloc, &cache, "/a/f")?;
+    let there = told(alloc, &cache, "/b/g")?;
+    let names = page(alloc, &cache, "/b/g", "")?;
+    let file = Reply::Stat {
+        dir: false,
+        length: 0,
+    };
+    let moved = gone == Reply::Plain(PlainError::NotFound) && there == file;
+    Ok(done.is_none() && moved && names.is_none())
 }
 
 // A row that is lost on its way into another directory.
 #[test]
 fn moves_a_row(rt: HostRuntime) -> Result<(), Fail> {
-    let alloc = rt.alloc();
-    let mut cache = fresh(alloc)?;
-    assert_eq!(rt; make(alloc, &mut cache, "/a", 2, true)?, None);
-    assert_eq!(rt; make(alloc, &mut cache, "/a/f", 3, false)?, None);
-    assert_eq!(rt; make(alloc, &mut cache, "/b", 4, true)?, None);
-    assert_eq!(rt; rename(alloc, &mut cache, "/a/f", "/b/g")?, None);
-    let draft = Draft::new(alloc);
-    let gone = plan_stat(&draft, &cache, &path(alloc, "/a/f")?)?;
-    assert!(rt; gone == Reply::Plain(PlainError::NotFound));
-    let there = plan_stat(&draft, &cache, &path(alloc, "/b/g")?)?;
-    assert!(rt;
-        there
-            == Reply::Stat {
-                dir: false,
-                length: 0
-            }
-    );
+    assert!(rt; moves(rt.alloc())?);
     Ok(())
+}
+
+// Makes the files f00 to f64.
+fn many(alloc: Global, cache: &mut Cache) -> Result<(), Fail> {
+    for i in 0..65u64 {
+        let name = format!(in alloc; "/f{}{}", i / 10, i % 10)?;
+        make(alloc, cache, name.as_str(), i + 2, false)?;
+    }
+    Ok(())
+}
+
+// How many names the first page of these has, and the one behind f63.
+fn pages(alloc: Global) -> Result<(Option<usize>, Option<usize>), Fail> {
+    let mut cache = fresh(alloc)?;
+    many(alloc, &mut cache)?;
+    let first = page(alloc, &cache, "/", "")?;
+    let last = page(alloc, &cache, "/", "f63")?;
+    Ok((first, last))
 }
 
 // A page of one name more or less.
 #[test]
 fn lists_in_pages(rt: HostRuntime) -> Result<(), Fail> {
-    let alloc = rt.alloc();
-    let mut cache = fresh(alloc)?;
-    for i in 0..65u64 {
-        let name = format!(in alloc; "/f{}{}", i / 10, i % 10)?;
-        assert_eq!(rt; make(alloc, &mut cache, name.as_str(), i + 2, false)?, None);
-    }
-    assert_eq!(rt; page(alloc, &cache, "/", "")?, Some(64));
-    assert_eq!(rt; page(alloc, &cache, "/", "f63")?, Some(1));
+    assert_eq!(rt; pages(rt.alloc())?, (Some(64), Some(1)));
     Ok(())
 }
