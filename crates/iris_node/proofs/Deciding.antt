@@ -88,14 +88,14 @@ dots_test (b ∷ []) h k = dots_one b h
 dots_test (b ∷ c ∷ []) h k = dots_two b c k
 dots_test (b ∷ c ∷ d ∷ more) h k = refl
 
-name_kept : (name : List ℕ) → IsUtf8 name → is_file_name name ≡ true → IsFileName name
+pub name_kept : (name : List ℕ) → IsUtf8 name → is_file_name name ≡ true → IsFileName name
 name_kept name u h =
     let a = and_parts _ _ h in
     let b = and_parts _ _ a.1 in
     let c = and_parts _ _ b.1 in
     record { text = u; some = le_from 1 (length name) a.0; short = le_from (length name) 255 b.0; dot = not_dot name c.0; dots = not_dots name c.0; bytes = c.1 }
 
-name_test : (name : List ℕ) → IsFileName name → is_file_name name ≡ true
+pub name_test : (name : List ℕ) → IsFileName name → is_file_name name ≡ true
 name_test name h =
     both _ _ (le_test 1 (length name) h.some) (both _ _ (le_test (length name) 255 h.short) (both _ _ (dots_test name h.dot h.dots) h.bytes))
 

@@ -1,8 +1,8 @@
 -- As many blocks are walked over as are counted.
-use Rattle.std.proofs.Common.{◌≡◌, ◌+◌, ◌++◌, ℕ, List, refl, ap, sym, ◌∙◌, length}
+use Rattle.std.proofs.Common.{◌≡◌, ◌+◌, ◌++◌, ℕ, List, refl, ap, ◌∙◌, length}
 use Rattle.std.proofs.lemmas.List.{length-append}
 use Rattle.std.proofs.lemmas.List.FromFn.{length-map-range_with_len}
-use Rattle.iris_node.specs.Unfolded.{Unfolded, Absent, Folder, Leaf, Even, Split, Stored, blocks}
+use Rattle.iris_node.specs.Unfolded.{Absent, Folder, Leaf, Even, Split, Stored, blocks}
 use Rattle.iris_node.specs.Laws.{WalkCounts}
 use Rattle.iris_node.specs.Walk.{BlockAt, walk, file_blocks, block_count}
 

@@ -14,6 +14,7 @@ pub use node::{
     Body, EntryNode, Link, MOST_LENGTH, MOST_LEVEL, Node, PartNode, Side, is_same_node,
 };
 pub use reading::decode;
+pub use rules::is_file_name;
 pub use sheet::RECORD_MOST;
 pub use writing::{encode, encode_into, hash_of};
 

@@ -1,8 +1,8 @@
 //! The rules of entries and parts, as tests.
 
-ghost use Rattle.std.specs.Prelude.{◌≡◌, ◌≤◌, ◌-◌, ◌^◌};
+ghost use Rattle.std.specs.Prelude.{◌≡◌, ◌↔◌, ◌≤◌, ◌-◌, ◌^◌, IsTrue};
 ghost use Rattle.std.specs.List.{list_all};
-ghost use Rattle.iris_node.specs.Rules.{most_level, in_name};
+ghost use Rattle.iris_node.specs.Rules.{most_level, in_name, IsFileName};
 ghost use Rattle.iris_node.specs.Tests.{is_dots, is_file_name, is_linked, is_body, is_dir, is_root, is_placed, is_entry, is_fold, differ, is_part};
 ghost use Rattle.iris_node.specs.Views.{entry_read, part_read};
 
@@ -26,9 +26,12 @@ fn is_one_step(name: &[u8]) -> bool
     name.iter().all(|b| *b != b'/' && *b != 0)
 }
 
-fn is_file_name(name: &[u8]) -> bool
-    ensures { result ≡ is_file_name name.now }
+/// Whether a file or a directory may have this name.
+pub fn is_file_name(name: &str) -> bool
+    ensures test { result ≡ is_file_name name.now }
+    ensures rule { IsTrue result ↔ IsFileName name.now }
 {
+    let name = name.as_bytes();
     1 <= name.len() && name.len() <= 255 && !is_dots(name) && is_one_step(name)
 }
 
@@ -72,7 +75,7 @@ fn is_placed(entry: &EntryRead<'_>) -> bool
     if entry.id < 2 {
         is_root(entry)
     } else {
-        is_file_name(entry.name.as_bytes())
+        is_file_name(entry.name)
     }
 }
 

@@ -139,7 +139,7 @@ pub apart_right : {A : Type 0} (up : A → A → Bool) (a b : List A) → AllApa
 apart_right up [] b h = h
 apart_right up (x ∷ a) b h = apart_right up a b h.1
 
-each_map : {A : Type 0} (P Q : A → Type 0) (xs : List A) → ((z : A) → P z → Q z) → Each P xs → Each Q xs
+pub each_map : {A : Type 0} (P Q : A → Type 0) (xs : List A) → ((z : A) → P z → Q z) → Each P xs → Each Q xs
 each_map P Q [] f h = tt
 each_map P Q (x ∷ xs) f h = (f x h.0, each_map P Q xs f h.1)
 
@@ -168,11 +168,11 @@ treap_at up r x [] t rs i e h = ap (first up x) e ∙ first_below up x t h
 treap_at up r x (y ∷ ls) t rs i e h =
     ap (first up y) (treap_at up r x ls t rs i.1 e h) ∙ cond-false (up y x) (Over y Empty (Over x (treap up ls) t)) (Over x (first up y (treap up ls)) t) (r.one_way x y i.0)
 
-each_both : {A : Type 0} (P : A → Type 0) (a b : List A) → Each P a → Each P b → Each P (a ++ b)
+pub each_both : {A : Type 0} (P : A → Type 0) (a b : List A) → Each P a → Each P b → Each P (a ++ b)
 each_both P [] b h k = k
 each_both P (x ∷ a) b h k = (h.0, each_both P a b h.1 k)
 
-each_of : {A : Type 0} (P : A → Type 0) (t : Treap A) → Every P t → Each P (rows t)
+pub each_of : {A : Type 0} (P : A → Type 0) (t : Treap A) → Every P t → Each P (rows t)
 each_of P Empty h = tt
 each_of P (Over y l m) h = each_both P (rows l) (y ∷ rows m) (each_of P l h.1) (h.0, each_of P m h.2)
 
@@ -234,7 +234,7 @@ rows_low p (Over y l m) h =
     (λ t. ap (λ a. rows l ++ y ∷ a) (rows_low p m fr.1) ∙ sym (keep_past p (rows l) y (rows m) h t))
     (λ f. rows_low p l fl ∙ sym (keep_short p (rows l) y (rows m) f))
 
-rows_high : {A : Type 0} (p : A → Bool) (t : Treap A) → Falls p (rows t) → rows (high p t) ≡ skip p (rows t)
+pub rows_high : {A : Type 0} (p : A → Bool) (t : Treap A) → Falls p (rows t) → rows (high p t) ≡ skip p (rows t)
 rows_high p Empty h = refl
 rows_high p (Over y l m) h =
     let fl = falls_left p (rows l) (y ∷ rows m) h in
