@@ -18,9 +18,10 @@ use Rattle.iris_cache.specs.Drafted.{Drafted, drafted, known, seen, known_by, th
 use Rattle.iris_cache.specs.Applied.{Lands, Changed, Differs, IsOver, above as over, landed, landed_by, arrived}
 use Rattle.iris_node.specs.Trees.{Shown, IsTree, IsParent, IsAbove, IsNodeName, node_name}
 use Rattle.iris_cache.specs.Pictures.{IsLike, IsHashOf, IsSettled, Holds, Pictures, Drafts, parent_after, parent_by}
-use Rattle.iris_cache.specs.Laws.{AreFormed, ApplyKeeps, ApplyMarks, IsSparing, KeepsMarks, Left}
+use Rattle.iris_cache.specs.Laws.{AreFormed, HaveApart, ApplyKeeps, ApplyMarks, KeepsMarks, Left}
 use Rattle.iris_cache.proofs.Children.{same-node, live-name, held-named}
 use Rattle.iris_cache.proofs.Lacking.{named, unknown}
+use Rattle.iris_cache.proofs.Sparing.{sets-held}
 use Rattle.iris_cache.proofs.Rising.{or-split, or-left, or-right, above-none}
 
 -- one step further up
@@ -251,12 +252,12 @@ module _ (old new : Shown) (d : Drafted) (c e : Resident) (pic : Drafts old new 
   hash-after n m node x (Some h) at sees holds s =
       let b = settled-before m h at s in
       let a = after-of m h at in
-      let t = pic.hashes n m node x sees holds (subst IsSettled (sym b.at) b.settled) in
+      let t = (pic.hashes n m node x sees holds).0 (subst IsSettled (sym b.at) b.settled) in
       λ u live. t u (same-at m h.node u a.node b.unmarked live)
   hash-after n m node x None at sees holds s = by (known d c m) refl
     where
       by : (k : Option (Option Node)) → known d c m ≡ k → IsHashOf (new m) x
-      by None k = let t = pic.hashes n m node x sees holds (subst IsSettled (sym ((unknown d c m k).1)) tt) in subst (λ o. IsHashOf o x) (sym (pic.away m (held-named node m x holds) k)) t
+      by None k = let t = (pic.hashes n m node x sees holds).0 (subst IsSettled (sym ((unknown d c m k).1)) tt) in subst (λ o. IsHashOf o x) (sym (pic.away m (held-named node m x holds) k)) t
       by (Some None) k = λ u live. no-unfolded (new m) u (pic.gone m (held-named node m x holds) k) live
       by (Some (Some y)) k = absurd (true≢false (sym (stays-of m (ap (λ o. is_some (there_by o)) k)) ∙ ap (λ (o : Option Held). is_some o) at))
 
@@ -316,15 +317,15 @@ module _ (old new : Shown) (d : Drafted) (c e : Resident) (pic : Drafts old new 
         | inr o ↦ no-unfolded (old m) l.it o (sym same ∙ l.at)
       ]
 
-  changed-differs : (m : Name) (s : SetTo (drafted d m) (held c m)) (o : Option Held) → held c m ≡ o → IsSparing old new d c → new m ≡ old m → ⊥
-  changed-differs m s None at sparing same = new-name m s.change s.node s.at s.sees at same
-  changed-differs m s (Some h) at sparing same = subst (Differs (Some s.node)) at s.differs (sparing m s.change s.node h s.at s.is at same)
+  changed-differs : (m : Name) (s : SetTo (drafted d m) (held c m)) (o : Option Held) → held c m ≡ o → HaveApart old → new m ≡ old m → ⊥
+  changed-differs m s None at apart same = new-name m s.change s.node s.at s.sees at same
+  changed-differs m s (Some h) at apart same = subst (Differs (Some s.node)) at s.differs (sets-held old new d c m s.node h pic was fo apart s.sees at same)
 
-  marked-differs : (n : Name) → marked n ≡ true → IsSparing old new d c → new n ≡ old n → ⊥
-  marked-differs n t sparing same =
+  marked-differs : (n : Name) → marked n ≡ true → HaveApart old → new n ≡ old n → ⊥
+  marked-differs n t apart same =
       let f = (lands n).from t in
       let s = set-to (drafted d f.0) (held c f.0) f.1 in
-      changed-differs f.0 s (held c f.0) refl sparing (same-below n f.2.0 f.0 s.node f.2.1 s.sees same)
+      changed-differs f.0 s (held c f.0) refl apart (same-below n f.2.0 f.0 s.node f.2.1 s.sees same)
 
   unmarked-same : (n : Name) (node : Node) → seen d c n ≡ Some node → marked n ≡ false → new n ≡ old n
   unmarked-same n node sees un = let l = live (new n) node (pic.nodes n node sees) in l.at ∙ sym (same-at n node l.it sees un l.at)
@@ -333,7 +334,7 @@ module _ (old new : Shown) (d : Drafted) (c e : Resident) (pic : Drafts old new 
   not-seen n node at k = true≢false (sym (stays-of n (ap (λ o. is_some (there_by o)) k)) ∙ ap (λ (o : Option Held). is_some o) at)
 
   abbrev LeftOf : Name → Option Held → Option Held → Type 0
-  LeftOf n w v = Left (IsSparing old new d c) (new n ≡ old n) w v
+  LeftOf n w v = Left (new n ≡ old n) w v
 
   never-there : (n : Name) → IsNodeName n → held c n ≡ None → held e n ≡ None → new n ≡ old n
   never-there n kind absent at = by (known d c n) refl
@@ -367,24 +368,24 @@ module _ (old new : Shown) (d : Drafted) (c e : Resident) (pic : Drafts old new 
   unmarked-node : (n : Name) (g h : Held) → held c n ≡ Some g → seen d c n ≡ Some h.node → marked n ≡ false → g.node ≡ h.node
   unmarked-node n g h at sees un = let s = same-by (drafted d n) (held c n) h.node sees (unchanged n un) in ap (λ (x : Held). x.node) (the-held g s.was (sym at ∙ s.at)) ∙ s.is
 
-  left-by : (n : Name) (g h : Held) (b : Bool) → held c n ≡ Some g → seen d c n ≡ Some h.node → marked n ≡ b → KeepsMarks (if b then moved g else g) h → LeftOf n (Some g) (Some h)
-  left-by n g h true at sees m keeps = inr (marked-differs n m, keeps)
-  left-by n g h false at sees m keeps = inl (unmarked-same n h.node sees m, keeps ∙ ap (λ k. record g { node = k; parent = h.parent; kids = h.kids }) (sym (unmarked-node n g h at sees m)))
+  left-by : HaveApart old → (n : Name) (g h : Held) (b : Bool) → held c n ≡ Some g → seen d c n ≡ Some h.node → marked n ≡ b → KeepsMarks (if b then moved g else g) h → LeftOf n (Some g) (Some h)
+  left-by apart n g h true at sees m keeps = inr (marked-differs n m apart, keeps)
+  left-by apart n g h false at sees m keeps = inl (unmarked-same n h.node sees m, keeps ∙ ap (λ k. record g { node = k; parent = h.parent; kids = h.kids }) (sym (unmarked-node n g h at sees m)))
 
-  stayed : (n : Name) (g h : Held) → held c n ≡ Some g → held e n ≡ Some h → LeftOf n (Some g) (Some h)
-  stayed n g h was-at at = let a = after-of n h at in elim a.was [
+  stayed : HaveApart old → (n : Name) (g h : Held) → held c n ≡ Some g → held e n ≡ Some h → LeftOf n (Some g) (Some h)
+  stayed apart n g h was-at at = let a = after-of n h at in elim a.was [
     | inl r ↦ absurd (true≢false (sym (ap (λ (o : Option Held). is_some o) was-at) ∙ ap (λ (o : Option Held). is_some o) r.0))
-    | inr r ↦ left-by n g h (marked n) was-at a.node refl (subst (λ (x : Held). KeepsMarks (if marked n then moved x else x) h) (the-held r.0 g (sym r.1 ∙ was-at)) r.2)
+    | inr r ↦ left-by apart n g h (marked n) was-at a.node refl (subst (λ (x : Held). KeepsMarks (if marked n then moved x else x) h) (the-held r.0 g (sym r.1 ∙ was-at)) r.2)
   ]
 
-  left : (n : Name) (w v : Option Held) → IsNodeName n → held c n ≡ w → held e n ≡ v → LeftOf n w v
-  left n None None kind a b = never-there n kind a b
-  left n None (Some h) kind a b = came n h a b
-  left n (Some g) None kind a b = went n g kind a b
-  left n (Some g) (Some h) kind a b = stayed n g h a b
+  left : HaveApart old → (n : Name) (w v : Option Held) → IsNodeName n → held c n ≡ w → held e n ≡ v → LeftOf n w v
+  left apart n None None kind a b = never-there n kind a b
+  left apart n None (Some h) kind a b = came n h a b
+  left apart n (Some g) None kind a b = went n g kind a b
+  left apart n (Some g) (Some h) kind a b = stayed apart n g h a b
 
 pub apply-keeps : ApplyKeeps
 apply-keeps old new d c e pic was is fo fn lands = after-pictures old new d c e pic was is fo fn lands
 
 pub apply-marks : ApplyMarks
-apply-marks old new d c e pic was is fo fn lands n kind = left old new d c e pic was is fo fn lands n (held c n) (held e n) kind refl refl
+apply-marks old new d c e pic was is fo fn apart lands n kind = left old new d c e pic was is fo fn lands apart n (held c n) (held e n) kind refl refl

@@ -24,7 +24,7 @@ lead-id n None = n
 lead-id n (Some l) = l.id
 
 -- a link leads to what stands under its name
-linked-name : (w : Unfolded) (l : Option Link) (n : Name) (x : Hash32) → led w ≡ led_by l → LinkHolds l n x → node_name w ≡ Some n
+pub linked-name : (w : Unfolded) (l : Option Link) (n : Name) (x : Hash32) → led w ≡ led_by l → LinkHolds l n x → node_name w ≡ Some n
 linked-name w None n x e h = absurd h
 linked-name (Folder id label less more inside) (Some l) n x e h = let i : id ≡ l.id.0 = ap (lead-id id) e in ap (λ k. Some (name.Entry (id_of k))) i ∙ ap Some (sym h.0)
 linked-name (Leaf id label less more size counter versions) (Some l) n x e h = let i : id ≡ l.id.0 = ap (lead-id id) e in ap (λ k. Some (name.Entry (id_of k))) i ∙ ap Some (sym h.0)

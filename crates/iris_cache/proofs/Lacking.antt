@@ -83,4 +83,4 @@ lacking old new d c n m node x pic was is sees holds parent missing =
     let same = pic.away m (child_named new n m parent) missing in
     let there_now = is.below n m parent.parent parent.child parent.live parent.above parent.named in
     let absent = (unknown d c m missing).1 in
-    (live (old m) parent.child (sym same ∙ there_now), (pic.hashes n m node x sees holds (subst IsSettled (sym absent) tt), parent_resident old new d c m n pic was is parent (there (seen d c n) node sees)))
+    (live (old m) parent.child (sym same ∙ there_now), ((pic.hashes n m node x sees holds).0 (subst IsSettled (sym absent) tt), parent_resident old new d c m n pic was is parent (there (seen d c n) node sees)))

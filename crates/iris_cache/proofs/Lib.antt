@@ -6,8 +6,8 @@ pub mod Rising
 pub mod Landing
 pub mod Ways
 pub mod Children
+pub mod Sparing
 pub mod Applying
 pub mod Lacking
 pub mod Keeping
-pub mod Sparing
 pub mod Settling

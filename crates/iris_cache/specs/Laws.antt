@@ -7,14 +7,12 @@ use Rattle.iris_name.specs.declared.name.Name.TheVariants as name
 use Rattle.iris_node.specs.declared.node.Node.{Node}
 use Rattle.iris_node.specs.Unfolded.{Unfolded, Absent, Folder, Leaf, Even, Split, Stored, id_of}
 use Rattle.iris_cache.specs.declared.held.Held.{Held}
-use Rattle.iris_cache.specs.declared.draft.Change.{Change}
 use Rattle.iris_cache.specs.Applied.{Lands, arrived}
 use Rattle.iris_cache.specs.Held.{points, kid_less, kid_more, moved, newcomer, settled_so, stay_of}
 use Rattle.iris_cache.specs.Rehash.{whole_part, with_hash}
 use Rattle.iris_cache.specs.Resident.{Resident, held, map_if, up, IsSound}
-use Rattle.iris_cache.specs.Drafted.{Drafted, drafted, known, seen}
-use Rattle.iris_node.specs.Trees.{Shown, IsTree, IsParent, IsNodeName}
-use Rattle.iris_cache.specs.Hashes.{HoldsAsHeld}
+use Rattle.iris_cache.specs.Drafted.{Drafted, known, seen}
+use Rattle.iris_node.specs.Trees.{Shown, IsTree, IsParent, IsNodeName, node_name}
 use Rattle.iris_cache.specs.Pictures.{Holds, IsHashOf, IsLike, Pictures, Drafts}
 
 -- what a link leads to: an entry, or nothing
@@ -48,6 +46,23 @@ IsFormed (Stored version bytes) = Unit {0}
 abbrev pub AreFormed : Shown → Type 0
 AreFormed t = (n : Name) (u : Unfolded) → t n ≡ Some u → IsFormed u
 
+-- two places below a node don't lead to one name
+abbrev pub AreApart : Unfolded → Unfolded → Type 0
+AreApart u w = (n : Name) → node_name u ≡ Some n → node_name w ≡ Some n → ⊥
+
+-- the places below a node lead to different names
+abbrev pub IsApart : Unfolded → Type 0
+IsApart (Folder id label less more inside) = AreApart less more × (AreApart less inside × AreApart more inside)
+IsApart (Leaf id label less more size counter versions) = AreApart less more
+IsApart (Split file level index low high) = Unit {0}
+IsApart Absent = Unit {0}
+IsApart (Even version) = Unit {0}
+IsApart (Stored version bytes) = Unit {0}
+
+-- each live node of a table has its children apart
+abbrev pub HaveApart : Shown → Type 0
+HaveApart t = (n : Name) (u : Unfolded) → t n ≡ Some u → IsApart u
+
 -- What a plan lacks, where it is a child of a node that is seen: live before, with that hash, and its parent is resident.
 abbrev pub Lacks : Type 0
 Lacks = (old new : Shown) (d : Drafted) (c : Resident) (n m : Name) (node : Node) (x : Hash32)
@@ -80,14 +95,6 @@ abbrev pub ApplyKeeps : Type 0
 ApplyKeeps = (old new : Shown) (d : Drafted) (c e : Resident)
     → Drafts old new d c → IsTree old → IsTree new → AreFormed old → AreFormed new → ((q : Name) → Lands d c e q) → Pictures new e
 
--- a draft is sparing: of a name that stands for the same, it sets the node that is held
-abbrev pub IsSparing : Shown → Shown → Drafted → Resident → Type 0
-IsSparing old new d c = (n : Name) (change : Change) (node : Node) (h : Held) → drafted d n ≡ Some change → change.node ≡ Some node → held c n ≡ Some h → new n ≡ old n → node ≡ h.node
-
--- A draft that holds hashes as they are held is sparing.
-abbrev pub Spares : Type 0
-Spares = (old new : Shown) (d : Drafted) (c : Resident) → Drafts old new d c → HoldsAsHeld d c → IsSparing old new d c
-
 -- a node keeps its pins, its marks and what is out
 abbrev pub KeepsMarks : Held → Held → Type 0
 KeepsMarks g h = h ≡ record g { node = h.node; parent = h.parent; kids = h.kids }
@@ -96,18 +103,18 @@ KeepsMarks g h = h ≡ record g { node = h.node; parent = h.parent; kids = h.kid
 abbrev pub KeepsNode : Held → Held → Type 0
 KeepsNode g h = h ≡ record g { parent = h.parent; kids = h.kids }
 
--- What a draft leaves of what was held of a name. It keeps its node and its marks, and then stands for the same; or it is dirty, unsettled, and touched where something is out, and then stands for something else, if the draft is sparing.
-abbrev pub Left : Type 0 → Type 0 → Option Held → Option Held → Type 0
-Left sparing same None None = same
-Left sparing same None (Some h) = (same → ⊥) × KeepsMarks (arrived h.parent h.node) h
-Left sparing same (Some g) None = same → ⊥
-Left sparing same (Some g) (Some h) = (same × KeepsNode g h) ⊎ ((sparing → same → ⊥) × KeepsMarks (moved g) h)
+-- What a draft leaves of what was held of a name. It keeps its node and its marks, and then stands for the same; or it is dirty, unsettled, and touched where something is out, and then stands for something else.
+abbrev pub Left : Type 0 → Option Held → Option Held → Type 0
+Left same None None = same
+Left same None (Some h) = (same → ⊥) × KeepsMarks (arrived h.parent h.node) h
+Left same (Some g) None = same → ⊥
+Left same (Some g) (Some h) = (same × KeepsNode g h) ⊎ ((same → ⊥) × KeepsMarks (moved g) h)
 
--- A draft marks whatever stands for something else, and nothing more if it is sparing.
+-- A draft marks whatever stands for something else, and nothing more.
 abbrev pub ApplyMarks : Type 0
 ApplyMarks = (old new : Shown) (d : Drafted) (c e : Resident)
-    → Drafts old new d c → IsTree old → IsTree new → AreFormed old → AreFormed new → ((q : Name) → Lands d c e q)
-    → (n : Name) → IsNodeName n → Left (IsSparing old new d c) (new n ≡ old n) (held c n) (held e n)
+    → Drafts old new d c → IsTree old → IsTree new → AreFormed old → AreFormed new → HaveApart old → ((q : Name) → Lands d c e q)
+    → (n : Name) → IsNodeName n → Left (new n ≡ old n) (held c n) (held e n)
 
 -- two that may be held are alike: the same node under the same parent, settled or not
 abbrev pub AreAlike : Option Held → Option Held → Type 0

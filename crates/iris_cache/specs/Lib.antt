@@ -6,5 +6,4 @@ pub mod Applied
 pub mod Marked
 pub mod Pictures
 pub mod Needs
-pub mod Hashes
 pub mod Laws

@@ -50,6 +50,14 @@ IsSettled (Some h) = h.settled ≡ true
 abbrev pub IsHashOf : Option Unfolded → Hash32 → Type 0
 IsHashOf o x = (u : Unfolded) → o ≡ Some u → option_map hash (node_of u) ≡ Some x
 
+-- where a node and the one above it are resident, that one holds this hash of it
+abbrev pub IsHeldHash : Resident → Name → Hash32 → Type 0
+IsHeldHash c n x = (h g : Held) (p : Name) → held c n ≡ Some h → h.parent ≡ Some p → held c p ≡ Some g → Holds g.node n x
+
+-- a hash of a name was its true one before, where it is absent or settled, and is the one that its resident parent holds
+abbrev pub WasHash : Shown → Resident → Name → Hash32 → Type 0
+WasHash old c n x = (IsSettled (held c n) → IsHashOf (old n) x) × IsHeldHash c n x
+
 -- it is live, and the node says by itself what it stands for
 abbrev pub IsLike : Option Unfolded → Node → Type 0
 IsLike o node = IsSomeAnd o (λ u. local u ≡ Some (local_of node))
@@ -80,8 +88,8 @@ pub record Drafts (old new : Shown) (d : Drafted) (c : Resident) : Type 0 where
   pub before : Pictures old c
   -- each node that is seen is the new table's, but for hashes
   pub nodes : (n : Name) (node : Node) → seen d c n ≡ Some node → IsLike (new n) node
-  -- a hash that is held of an absent or a settled child was its true one before
-  pub hashes : (n m : Name) (node : Node) (x : Hash32) → seen d c n ≡ Some node → Holds node m x → IsSettled (held c m) → IsHashOf (old m) x
+  -- a hash that is held of a child was its true one before, or is the one that its resident parent holds
+  pub hashes : (n m : Name) (node : Node) (x : Hash32) → seen d c n ≡ Some node → Holds node m x → WasHash old c m x
   -- the parent of a node that is seen is seen, and is its parent in the new table
   pub parents : (n p : Name) (node : Node) → seen d c n ≡ Some node → IsParent new p n → (parent_after d c n ≡ Some p) × IsSome (seen d c p)
   pub tied : (n p : Name) (node : Node) → seen d c n ≡ Some node → parent_after d c n ≡ Some p → IsParent new p n

@@ -1,6 +1,6 @@
 //! Laws of caches that picture a table.
 
-ghost use Rattle.iris_cache.specs.Laws.{AlikeKeeps, ApplyKeeps, ApplyMarks, EvictKeeps, InsertKeeps, Lacks, SetHashKeeps, Spares};
+ghost use Rattle.iris_cache.specs.Laws.{AlikeKeeps, ApplyKeeps, ApplyMarks, EvictKeeps, InsertKeeps, Lacks, SetHashKeeps};
 
 /// What a plan lacks is live before it, with the hash that the plan expects, and its parent is resident.
 pub fn lacks()
@@ -27,14 +27,9 @@ pub fn apply_keeps()
     ensures { ApplyKeeps }
 {}
 
-/// A draft marks all that stands for something else, and nothing more where it sets no node anew that stands for the same.
+/// A draft marks exactly what stands for something else.
 pub fn apply_marks()
     ensures { ApplyMarks }
-{}
-
-/// A draft sets no node anew that stands for the same, if it holds of each child the hash that is held.
-pub fn spares()
-    ensures { Spares }
 {}
 
 /// Pins, dirty marks and what is out are no part of what a cache pictures.

@@ -1,7 +1,6 @@
 -- Parts made of two halves, and the hashes that they keep.
 use Rattle.std.proofs.Common.{◌≡◌, ◌==◌, ◌⊎◌, ◌+◌, ◌-◌, ◌*◌, ◌/◌, ◌%◌, ◌<◌, ◌≤◌, ◌^◌, inl, inr, ℕ, suc, Bool, true, false, cond, Option, Some, None, refl, ap, sym, ◌∙◌, subst, arith}
-use Rattle.std.specs.Prelude.{IsSome, IfSome}
-use Rattle.std.specs.Option.{option_map}
+use Rattle.std.specs.Prelude.{IsSome, IsSomeAnd, IfSome}
 use Rattle.std.proofs.lemmas.Bool.{eqb-true, eqb-false, cases_lt}
 use Rattle.iris_name.specs.declared.name.FileId.{FileId}
 use Rattle.iris_name.specs.declared.name.Hash32.{Hash32}
@@ -17,17 +16,17 @@ use Rattle.iris_node.specs.Nodes.{name_of}
 use Rattle.iris_node.specs.Rules.{IsEntry, IsDir}
 use Rattle.iris_version_tree.specs.Needs.{IsFileNode, IsFileBody}
 use Rattle.iris_node.specs.Fields.{EntryFields, PartFields}
-use Rattle.iris_node.specs.Unfolded.{Unfolded, Absent, Folder, Leaf, Even, Split, Stored, id_of, hash, node_of}
+use Rattle.iris_node.specs.Unfolded.{Unfolded, Absent, Folder, Leaf, Even, Split, Stored, id_of}
 use Rattle.iris_node.specs.Local.{local, entry_local}
 use Rattle.iris_shape.specs.Folds.{Fold, One, Two, folded}
 use Rattle.iris_shape.specs.Sides.{side, part_of}
 use Rattle.iris_cache.specs.declared.held.Held.{Held}
 use Rattle.iris_cache.specs.declared.draft.Change.{Change}
 use Rattle.iris_cache.specs.Rehash.{low_part, high_part, whole_part}
-use Rattle.iris_cache.specs.Resident.{Resident, held, IsSound}
+use Rattle.iris_cache.specs.Resident.{Resident, held, parent_in, IsSound}
 use Rattle.iris_cache.specs.Drafted.{Drafted, drafted, seen, known_by, there_by, IsDraft}
 use Rattle.iris_node.specs.Trees.{Shown}
-use Rattle.iris_cache.specs.Pictures.{Pictures, IsSettled, IsLike, Holds, SideHolds, BodyHolds}
+use Rattle.iris_cache.specs.Pictures.{Pictures, IsLike, Holds, SideHolds, BodyHolds, IsHeldHash, WasHash}
 use Rattle.iris_version_tree.specs.Versions.{HasVersions, HadVersions, IsFileOf, places}
 use Rattle.iris_version_tree.specs.Sides.{part_seen, side_below, side_of_body, toward, over_name, held_side}
 use Rattle.iris_version_tree.specs.Reached.{IsTwo, IsSideOf, IsOver}
@@ -149,30 +148,40 @@ over_is file l i le = go (l == 16) refl
         let s : l + 1 ≡ suc l = omega arith in
         inr (i / 2, omega arith, ap (λ b. cond b (name.Entry file) (name.Part file (l + 1) (i / 2))) e ∙ ap (λ k. name.Part file k (i / 2)) s, half i)
 
-two_of_some : (f l i : ℕ) (g : Fold) (u : Unfolded) → part_of f l i g ≡ Some u → IsTwo g
-two_of_some f l i (One v) u e = cc
-two_of_some f l i (Two a b) u e = tt
+two_of_like : (f l i : ℕ) (g : Fold) (k : Node) → IsLike (part_of f l i g) k → IsTwo g
+two_of_like f l i (One v) k h = absurd h
+two_of_like f l i (Two a b) k h = tt
 
 some_of : (o : Option Held) → IsSome o → (h : Held) × (o ≡ Some h)
 some_of None e = cc
 some_of (Some h) e = (h, refl)
 
--- the true hash of a resident part is the one that the cache holds
-abbrev pub HeldTrue : Shown → Resident → FileId → ℕ → ℕ → Unfolded → Type 0
-HeldTrue old c file l i u = (x : Hash32) × (held_side (held c (over_name file l i)) i ≡ Some (Below x)) × (option_map hash (node_of u) ≡ Some x)
+-- a hash that the resident parent holds is the one that is held
+is_held : (c : Resident) (n q : Name) (h g : Held) (x : Hash32) → held c n ≡ Some h → h.parent ≡ Some q → held c q ≡ Some g → Holds g.node n x → IsHeldHash c n x
+is_held c n q h g x at up above holds k m p e f a =
+    let u : Some q ≡ Some p = sym up ∙ ap parent_in (sym at ∙ e) ∙ f in
+    let r : q ≡ p = cc in
+    subst (λ w. IsSomeAnd w (λ g. Holds g.node n x)) (sym above ∙ ap (λ n. held c n) r ∙ a) holds
 
-pub held_true : (old : Shown) (c : Resident) (file : FileId) (l i : ℕ) (u : Unfolded) → l ≤ 16 → (i + 1) * 2 ^ l ≤ places → Pictures old c → HadVersions old file
-    → IsSome (held c (name.Part file l i)) → IsSettled (held c (name.Part file l i)) → old (name.Part file l i) ≡ Some u → HeldTrue old c file l i u
-held_true old c file l i u le fits pic (inr none) some settled e = let n = none l i in cc
-held_true old c file l i u le fits pic (inl (v, has)) some settled e =
+-- the hash that the cache holds of a part, where a table is pictured
+abbrev pub HeldWas : Shown → Resident → FileId → ℕ → ℕ → Type 0
+HeldWas old c file l i = (x : Hash32) × (held_side (held c (over_name file l i)) i ≡ Some (Below x)) × WasHash old c (name.Part file l i) x
+
+pub held_was : (old : Shown) (c : Resident) (file : FileId) (l i : ℕ) → l ≤ 16 → (i + 1) * 2 ^ l ≤ places → Pictures old c → HadVersions old file → IsSome (held c (name.Part file l i)) → HeldWas old c file l i
+held_was old c file l i le fits pic (inr none) some =
+    let n = name.Part file l i in
+    let h = some_of (held c n) some in
+    absurd (subst (λ o. IsLike o h.0.node) (none l i) (pic.nodes n h.0 h.1))
+held_was old c file l i le fits pic (inl (v, has)) some =
+    let n = name.Part file l i in
     let q = over_name file l i in
     let o = over_is file l i le in
-    let two = two_of_some file.0 l i (folded v l i) u (sym (has.parts l i fits) ∙ e) in
-    let h = some_of (held c (name.Part file l i)) some in
-    let p = pic.parents (name.Part file l i) q h.0 h.1 (part_parent old file v l i q has o fits two) in
+    let h = some_of (held c n) some in
+    let two = two_of_like file.0 l i (folded v l i) h.0.node (subst (λ o. IsLike o h.0.node) (has.parts l i fits) (pic.nodes n h.0 h.1)) in
+    let p = pic.parents n q h.0 h.1 (part_parent old file v l i q has o fits two) in
     let g = some_of (held c q) p.1 in
     let k = over_holds old file v l i q g.0.node has o fits two (pic.nodes q g.0 g.1) in
-    (k.0, ap (λ o. held_side o i) g.1 ∙ k.1, pic.hashes q (name.Part file l i) g.0 k.0 g.1 k.2 settled u e)
+    (k.0, ap (λ o. held_side o i) g.1 ∙ k.1, (pic.hashes q n g.0 k.0 g.1 k.2, is_held c n q h.0 g.0 k.0 h.1 p.0 g.1 k.2))
 
 entry_id : Name → FileId
 entry_id (name.Entry id) = id

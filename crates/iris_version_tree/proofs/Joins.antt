@@ -25,7 +25,7 @@ use Rattle.iris_cache.specs.Rehash.{low_part, high_part}
 use Rattle.iris_cache.specs.Resident.{Resident, held}
 use Rattle.iris_cache.specs.Drafted.{Drafted, drafted, known_by, set_to, taken_away}
 use Rattle.iris_node.specs.Trees.{Shown}
-use Rattle.iris_cache.specs.Pictures.{IsSettled, Holds, SideHolds, IsHashOf}
+use Rattle.iris_cache.specs.Pictures.{Pictures, IsLike, Holds, SideHolds, IsHashOf, WasHash}
 use Rattle.iris_version_tree.specs.Sides.{common_of, IsBelow}
 use Rattle.iris_version_tree.specs.Reached.{IsTwo, IsSideOf, IsOver}
 use Rattle.iris_version_tree.specs.Ranges.{IsNodeWith, AtPart, SideAt, IsKnownBelow}
@@ -123,14 +123,13 @@ module _ (old : Shown) (c : Resident) (file : FileId) (l i : ℕ) (w : Option He
     resident = λ x e. is_resident g o at there;
   }
 
--- a hash that a half holds was true before
-pub side_true : (old : Shown) (c : Resident) (file : FileId) (w : ℕ → ℕ) (k j : ℕ) (part m : Name) (s : Side) (x : Hash32) → part ≡ name.Part file k j → SideAt old c file w k j s → SideHolds part s m x → IsSettled (held c m) → IsHashOf (old m) x
-side_true old c file w k j part m (Same u) x e at holds settled = absurd holds
-side_true old c file w k j part m (Below h) x e at holds settled =
+-- a hash that a half holds was its part's before
+pub side_true : (old : Shown) (c : Resident) (file : FileId) (w : ℕ → ℕ) (k j : ℕ) (part m : Name) (s : Side) (x : Hash32) → part ≡ name.Part file k j → SideAt old c file w k j s → SideHolds part s m x → WasHash old c m x
+side_true old c file w k j part m (Same u) x e at holds = absurd holds
+side_true old c file w k j part m (Below h) x e at holds =
     let n : m ≡ name.Part file k j = holds.0 ∙ e in
-    let P : Name → Type 0 = λ m. IsHashOf (old m) x in
-    let S : Name → Type 0 = λ m. IsSettled (held c m) in
-    subst P (sym n) (at.hash x (ap Below (sym holds.1)) (subst S n settled))
+    let P : Name → Type 0 = λ m. WasHash old c m x in
+    subst P (sym n) (at.hash x (ap Below (sym holds.1)))
 
 -- a part that was set
 pub at_set : (old : Shown) (c : Resident) (file : FileId) (l i : ℕ) (w : Option Held) (g : Fold) (o : Option Change) (v : ℕ → ℕ) (k : ℕ) (q : Name) (low high : Side) → l ≡ suc k
@@ -141,14 +140,14 @@ at_set old c file l i w g o v k q low high e at there over a b =
     let z : l - 1 ≡ k = omega (arith, e) in
     let P : Node → Type 0 = λ n. IsNodeWith file l i (Two (folded v k (2 * i)) (folded v k (2 * i + 1))) n in
     let own : P (node.Part p) = record { file_is = refl; level_is = refl; index_is = refl; halves = (a.like, b.like) } in
-    let true_hashes = λ (m : Name) (x : Hash32) (h : Holds (node.Part p) m x) (settled : IsSettled (held c m)).
-    elim h as (λ _. IsHashOf (old m) x) [
-      | inl h ↦ side_true old c file v k (2 * i) (low_part p) m low x (ap (λ k. name.Part file k (2 * i)) z) a h settled
-      | inr h ↦ side_true old c file v k (2 * i + 1) (high_part p) m high x (ap (λ k. name.Part file k (2 * i + 1)) z) b h settled
+    let true_hashes = λ (m : Name) (x : Hash32) (h : Holds (node.Part p) m x).
+    elim h as (λ _. WasHash old c m x) [
+      | inl h ↦ side_true old c file v k (2 * i) (low_part p) m low x (ap (λ k. name.Part file k (2 * i)) z) a h
+      | inr h ↦ side_true old c file v k (2 * i + 1) (high_part p) m high x (ap (λ k. name.Part file k (2 * i + 1)) z) b h
     ] in
     record {
       node = λ n is. (let q : node.Part p ≡ n = cc in subst P q own);
-      hashes = λ n m x is h settled. (let q : n ≡ node.Part p = cc in true_hashes m x (subst (λ n. Holds n m x) q h) settled);
+      hashes = λ n m x is h. (let q : n ≡ node.Part p = cc in true_hashes m x (subst (λ n. Holds n m x) q h));
       over = λ n is. (q, refl, over);
       gone = λ is two. cc;
       away = λ is. cc;
@@ -177,18 +176,25 @@ two_below (Two a b) (Below h) two below = tt
 not_live : (o : Option Unfolded) (h : Hash32) → o ≡ None → IsHashOf o h
 not_live o h none = λ u e. let q = sym none ∙ e in cc
 
+-- any hash of a name that isn't live was its hash
+never_was : (old : Shown) (c : Resident) (n : Name) (x : Hash32) → Pictures old c → old n ≡ None → WasHash old c n x
+never_was old c n x pic none = (
+  λ settled. not_live (old n) x none,
+  λ h g p at up above. absurd (subst (λ o. IsLike o h.node) none (pic.nodes n h at)),
+)
+
 -- the side of a part that was set
-pub set_side : (old : Shown) (c : Resident) (file : FileId) (v w : ℕ → ℕ) (l i : ℕ) (was made : Side) → IsTwo (folded w l i) → SideAt old c file v l i was → IsSome (held c (name.Part file l i)) ⊎ (old (name.Part file l i) ≡ None)
-    → IsBelow made → (IsBelow was → made ≡ was) → ((h : Hash32) → made ≡ Below h → (IsBelow was → ⊥) → IsSome (held c (name.Part file l i)) → IsSettled (held c (name.Part file l i)) → IsHashOf (old (name.Part file l i)) h)
+pub set_side : (old : Shown) (c : Resident) (file : FileId) (v w : ℕ → ℕ) (l i : ℕ) (was made : Side) → Pictures old c → IsTwo (folded w l i) → SideAt old c file v l i was → IsSome (held c (name.Part file l i)) ⊎ (old (name.Part file l i) ≡ None)
+    → IsBelow made → (IsBelow was → made ≡ was) → ((h : Hash32) → made ≡ Below h → (IsBelow was → ⊥) → IsSome (held c (name.Part file l i)) → WasHash old c (name.Part file l i) h)
     → SideAt old c file w l i made
-set_side old c file v w l i (Below x) made two at resident below kept hash = record {
+set_side old c file v w l i (Below x) made pic two at resident below kept hash = record {
   like = two_below (folded w l i) made two below;
-  hash = λ h is settled. at.hash h (sym (kept tt) ∙ is) settled;
+  hash = λ h is. at.hash h (sym (kept tt) ∙ is);
 }
-set_side old c file v w l i (Same x) made two at resident below kept hash = record {
+set_side old c file v w l i (Same x) made pic two at resident below kept hash = record {
   like = two_below (folded w l i) made two below;
-  hash = λ h is settled. elim resident [
-    | inl r ↦ hash h is (λ b. b) r settled
-    | inr r ↦ not_live (old (name.Part file l i)) h r
+  hash = λ h is. elim resident [
+    | inl r ↦ hash h is (λ b. b) r
+    | inr r ↦ never_was old c (name.Part file l i) h pic r
   ];
 }

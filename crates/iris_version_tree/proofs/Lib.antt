@@ -10,4 +10,3 @@ pub mod Reversions
 pub mod Likes
 pub mod Plans
 pub mod Written
-pub mod AsHeld

@@ -18,7 +18,7 @@ use Rattle.iris_cache.specs.declared.held.Short.TheVariants.{Need, NoMemory}
 use Rattle.iris_cache.specs.Resident.{Resident, held}
 use Rattle.iris_cache.specs.Drafted.{Drafted, drafted, seen}
 use Rattle.iris_node.specs.Trees.{Shown, node_name, IsTree, IsParent, IsAbove}
-use Rattle.iris_cache.specs.Pictures.{IsSettled, IsLike, IsHashOf}
+use Rattle.iris_cache.specs.Pictures.{IsLike, WasHash}
 use Rattle.iris_cache.proofs.Lacking.{parent_named, unknown}
 use Rattle.iris_version_tree.specs.Versions.{Versioned, HasVersions, Reversions, IsOther, IsFileOf, whole, reversioned, places}
 use Rattle.iris_version_tree.specs.Needs.{Lacks, IsShort}
@@ -67,10 +67,10 @@ module _ (old new : Shown) (file : FileId) (v : ℕ → ℕ) (d : Drafted) (c : 
   pub under_of : Under old v d c file 16 0
   under_of = record { parts = at_part }
 
-  side_by : (s : Side) (h : Hash32) → Reached d c file v 16 0 s → s ≡ Below h → IsSettled (held c (name.Part file 16 0)) → IsHashOf (old (name.Part file 16 0)) h
-  side_by s h r is settled =
+  side_by : (s : Side) (h : Hash32) → Reached d c file v 16 0 s → s ≡ Below h → WasHash old c (name.Part file 16 0) h
+  side_by s h r is =
       let link = subst (IsLinkedSide d c file 16 0) is r.linked in
-      pic.drafts.hashes link.parent (name.Part file 16 0) link.node h link.is_seen link.holds settled
+      pic.drafts.hashes link.parent (name.Part file 16 0) link.node h link.is_seen link.holds
 
   pub side_of_top : (s : Side) → side_seen (seen d c (name.Entry file)) ≡ Some s → SideAt old c file v 16 0 s
   side_of_top s is = let r = reached_top old new d c file v s pic is in record { like = r.like; hash = λ h e. side_by s h r e }

@@ -98,22 +98,22 @@ halved old c file v k i (Below h) low high o w at like are known =
     let two = below_two (folded v (suc k) i) h like in
     inr (halved_by old c file v k i h low high (known_by o w) two at.node (λ e. at.gone e two) known are)
 
--- sides of halves, with true hashes
+-- sides of halves, with their hashes
 even_half : (old : Shown) (c : Resident) (file : FileId) (v : ℕ → ℕ) (k j x : ℕ) (s : Side) → s ≡ Same x → folded v k j ≡ One x → SideAt old c file v k j s
 even_half old c file v k j x s e g = subst (SideAt old c file v k j) (sym e) (even_side old c file v k j x g)
 
 low_half : (old : Shown) (c : Resident) (file : FileId) (v : ℕ → ℕ) (k i : ℕ) (o : Option Change) (w : Option Held) (p : PartFields) (s : Side) → AtPart old c file (suc k) i (folded v (suc k) i) o w → there_by (known_by o w) ≡ Some (node.Part p) → LikePart file v k i p → s ≡ p.low → SideAt old c file v k (2 * i) s
 low_half old c file v k i o w p s at is like e = subst (SideAt old c file v k (2 * i)) (sym e) (record {
   like = like.low;
-  hash = λ h below settled. (let P : Side → Type 0 = λ s. SideHolds (low_part p) s (name.Part file k (2 * i)) h in
-      at.hashes (node.Part p) (name.Part file k (2 * i)) h is (inl (subst P (sym below) (low_name file v k i p like, refl))) settled);
+  hash = λ h below. (let P : Side → Type 0 = λ s. SideHolds (low_part p) s (name.Part file k (2 * i)) h in
+      at.hashes (node.Part p) (name.Part file k (2 * i)) h is (inl (subst P (sym below) (low_name file v k i p like, refl))));
 })
 
 high_half : (old : Shown) (c : Resident) (file : FileId) (v : ℕ → ℕ) (k i : ℕ) (o : Option Change) (w : Option Held) (p : PartFields) (s : Side) → AtPart old c file (suc k) i (folded v (suc k) i) o w → there_by (known_by o w) ≡ Some (node.Part p) → LikePart file v k i p → s ≡ p.high → SideAt old c file v k (2 * i + 1) s
 high_half old c file v k i o w p s at is like e = subst (SideAt old c file v k (2 * i + 1)) (sym e) (record {
   like = like.high;
-  hash = λ h below settled. (let P : Side → Type 0 = λ s. SideHolds (high_part p) s (name.Part file k (2 * i + 1)) h in
-      at.hashes (node.Part p) (name.Part file k (2 * i + 1)) h is (inr (subst P (sym below) (high_name file v k i p like, refl))) settled);
+  hash = λ h below. (let P : Side → Type 0 = λ s. SideHolds (high_part p) s (name.Part file k (2 * i + 1)) h in
+      at.hashes (node.Part p) (name.Part file k (2 * i + 1)) h is (inr (subst P (sym below) (high_name file v k i p like, refl))));
 })
 
 pub half_sides : (old : Shown) (c : Resident) (file : FileId) (v : ℕ → ℕ) (k i : ℕ) (s low high : Side) (o : Option Change) (w : Option Held) → AtPart old c file (suc k) i (folded v (suc k) i) o w → IsSideOf (folded v (suc k) i) s

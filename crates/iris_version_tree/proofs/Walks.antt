@@ -112,7 +112,7 @@ true_need old new d c file v l i h pic fits at k =
     let same = pic.drafts.away n tt k in
     let link = at.linked in
     let none = (unknown d c n k).1 in
-    let true_hash = pic.drafts.hashes link.parent n link.node h link.is_seen link.holds (subst IsSettled (sym none) tt) in
+    let true_hash = (pic.drafts.hashes link.parent n link.node h link.is_seen link.holds).0 (subst IsSettled (sym none) tt) in
     record {
       live = live;
       expected = expected_by (old n) h (subst P same live) true_hash;

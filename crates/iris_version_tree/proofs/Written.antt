@@ -26,7 +26,7 @@ use Rattle.iris_cache.specs.Rehash.{whole_part}
 use Rattle.iris_cache.specs.Resident.{Resident, held}
 use Rattle.iris_cache.specs.Drafted.{Drafted, drafted, seen, known, known_by, there_by, set_to}
 use Rattle.iris_node.specs.Trees.{Shown, node_name, IsTree, IsParent, IsNodeName}
-use Rattle.iris_cache.specs.Pictures.{Pictures, IsSettled, parent_after, parent_by, IsLike, Drafts, Holds, SideHolds, BodyHolds, IsHashOf}
+use Rattle.iris_cache.specs.Pictures.{Pictures, parent_after, parent_by, IsLike, Drafts, Holds, SideHolds, BodyHolds, WasHash}
 use Rattle.iris_cache.proofs.Lacking.{unknown}
 use Rattle.iris_version_tree.specs.Versions.{Versioned, HasVersions, Reversions, IsOther, whole, reversioned, places}
 use Rattle.iris_version_tree.specs.Needs.{IsFileNode, IsFileBody, HasEntryWith}
@@ -265,24 +265,24 @@ module _ (old new made : Shown) (file : FileId) (v w : ℕ → ℕ) (d e : Draft
       subst L (sym (rev.versions.parts l i (within_fits l i h))) (like_with file l i (folded w l i) m ((wr.under.parts l i some h).node m at)))
       (λ n k m at. (k.like m (pic.drafts.nodes n m (was n m k at))).1)
 
-  hashes_after : (n : Name) (k : Name) (m : Node) (h : Hash32) → seen e c n ≡ Some m → Holds m k h → IsSettled (held c k) → IsHashOf (old k) h
-  hashes_after = by_kind (λ n. (k : Name) (m : Node) (h : Hash32) → seen e c n ≡ Some m → Holds m k h → IsSettled (held c k) → IsHashOf (old k) h)
-      (λ k m h at holds settled.
+  hashes_after : (n : Name) (k : Name) (m : Node) (h : Hash32) → seen e c n ≡ Some m → Holds m k h → WasHash old c k h
+  hashes_after = by_kind (λ n. (k : Name) (m : Node) (h : Hash32) → seen e c n ≡ Some m → Holds m k h → WasHash old c k h)
+      (λ k m h at holds.
       let q : m ≡ node.Entry (entry_with s x) = (let z = sym wr.is ∙ at in cc) in
       let H : Node → Type 0 = λ m. Holds m k h in
-      let f = λ (hs : Holds (node.Entry x) k h). pic.drafts.hashes (name.Entry file) k (node.Entry x) h wr.was hs settled in
-      elim (subst H q holds) as (λ _. IsHashOf (old k) h) [
+      let f = λ (hs : Holds (node.Entry x) k h). pic.drafts.hashes (name.Entry file) k (node.Entry x) h wr.was hs in
+      elim (subst H q holds) as (λ _. WasHash old c k h) [
         | inl a ↦ f (inl a)
-        | inr a ↦ elim a as (λ _. IsHashOf (old k) h) [
+        | inr a ↦ elim a as (λ _. WasHash old c k h) [
           | inl b ↦ f (inr (inl b))
-          | inr b ↦ elim (body_hash s x.id x.body k h b) as (λ _. IsHashOf (old k) h) [
+          | inr b ↦ elim (body_hash s x.id x.body k h b) as (λ _. WasHash old c k h) [
             | inl g ↦ f (inr (inr g))
-            | inr g ↦ side_true old c file w 16 0 (whole_part x.id) k s h (ap (λ f. name.Part f 16 0) wr.id) wr.side g settled
+            | inr g ↦ side_true old c file w 16 0 (whole_part x.id) k s h (ap (λ f. name.Part f 16 0) wr.id) wr.side g
           ]
         ]
       ])
-      (λ l i some h k m x at holds settled. (wr.under.parts l i some h).hashes m k x at holds settled)
-      (λ n kept k m h at holds settled. pic.drafts.hashes n k m h (was n m kept at) holds settled)
+      (λ l i some h k m x at holds. (wr.under.parts l i some h).hashes m k x at holds)
+      (λ n kept k m h at holds. pic.drafts.hashes n k m h (was n m kept at) holds)
 
   -- what is no part of the file is seen as before
   seen_after : (p : Name) → IsOther file p → IsSome (seen d c p) → IsSome (seen e c p)

@@ -20,9 +20,7 @@ use Rattle.iris_cache.specs.declared.draft.Change.{Change}
 use Rattle.iris_cache.specs.Resident.{Resident, held}
 use Rattle.iris_cache.specs.Drafted.{Drafted, drafted, known, known_by, there_by}
 use Rattle.iris_node.specs.Trees.{Shown}
-use Rattle.iris_cache.specs.Pictures.{Pictures, IsSettled, parent_by, Holds, IsHashOf}
-use Rattle.iris_cache.specs.Hashes.{HoldsAsHeld}
-use Rattle.iris_version_tree.specs.Sides.{IsAsHeld, AreAsHeld}
+use Rattle.iris_cache.specs.Pictures.{Pictures, parent_by, Holds, WasHash}
 use Rattle.iris_version_tree.specs.Needs.{Covers}
 use Rattle.iris_version_tree.specs.Versions.{HadVersions}
 use Rattle.iris_version_tree.specs.Reached.{IsTwo, IsSideOf, IsOver, Reached}
@@ -61,7 +59,7 @@ IsNodeWith file l i g (node.Part p) = IsPartWith file l i g p
 -- What stands at a part's name, by what the draft changes of it and what is held of it: the part of this fold.
 pub record AtPart (old : Shown) (c : Resident) (file : FileId) (l i : ℕ) (g : Fold) (o : Option Change) (w : Option Held) : Type 0 where
   pub node : (n : Node) → there_by (known_by o w) ≡ Some n → IsNodeWith file l i g n
-  pub hashes : (n : Node) (m : Name) (x : Hash32) → there_by (known_by o w) ≡ Some n → Holds n m x → IsSettled (held c m) → IsHashOf (old m) x
+  pub hashes : (n : Node) (m : Name) (x : Hash32) → there_by (known_by o w) ≡ Some n → Holds n m x → WasHash old c m x
   pub over : (n : Node) → there_by (known_by o w) ≡ Some n → (q : Name) × (parent_by o w ≡ Some q) × IsOver file l i q
   pub gone : known_by o w ≡ Some None → IsTwo g → ⊥
   pub away : known_by o w ≡ None → part_of file.0 l i g ≡ old (name.Part file l i)
@@ -71,10 +69,10 @@ pub record AtPart (old : Shown) (c : Resident) (file : FileId) (l i : ℕ) (g : 
 pub record Under (old : Shown) (v : ℕ → ℕ) (d : Drafted) (c : Resident) (file : FileId) (l i : ℕ) : Type 0 where
   pub parts : (k j : ℕ) → 1 ≤ k → Within l i k j → AtPart old c file k j (folded v k j) (drafted d (name.Part file k j)) (held c (name.Part file k j))
 
--- a side stands for its fold, and a hash in it was true before
+-- a side stands for its fold, and a hash in it was its part's before
 pub record SideAt (old : Shown) (c : Resident) (file : FileId) (v : ℕ → ℕ) (l i : ℕ) (s : Side) : Type 0 where
   pub like : IsSideOf (folded v l i) s
-  pub hash : (h : Hash32) → s ≡ Below h → IsSettled (held c (name.Part file l i)) → IsHashOf (old (name.Part file l i)) h
+  pub hash : (h : Hash32) → s ≡ Below h → WasHash old c (name.Part file l i) h
 
 -- where a side is a hash, its part is seen, or was taken away
 abbrev pub IsKnownBelow : Side → Option (Option Node) → Type 0
@@ -109,11 +107,3 @@ Joins old d e c file v w l i was low high made = (k : ℕ) → l ≡ suc k → P
 -- Of a draft whose parts under one are those of versions v, one was made whose are those of versions w.
 abbrev pub Turns : Shown → Drafted → Drafted → Resident → FileId → (ℕ → ℕ) → (ℕ → ℕ) → ℕ → ℕ → Side → Side → Type 0
 Turns old d e c file v w l i was made = Pictures old c → HadVersions old file → Under old v d c file l i → SideAt old c file v l i was → Under old w e c file l i × SideAt old c file w l i made
-
--- Where a draft and a side held hashes as they are held, those that were made do.
-abbrev pub KeepsHashes : Drafted → Drafted → Resident → FileId → ℕ → ℕ → Side → Side → Type 0
-KeepsHashes d e c file l i was made = HoldsAsHeld d c → IsAsHeld was c file l i → HoldsAsHeld e c × IsAsHeld made c file l i
-
--- The same where two halves that hold hashes as they are held were joined.
-abbrev pub JoinsHashes : Drafted → Drafted → Resident → FileId → ℕ → ℕ → Side → Side → Side → Side → Type 0
-JoinsHashes d e c file l i was low high made = AreAsHeld low high c file l i → KeepsHashes d e c file l i was made

@@ -1,5 +1,5 @@
 -- Words on parts and sides.
-use Rattle.std.specs.Prelude.{◌≡◌, ◌==◌, ◌+◌, ◌-◌, ◌*◌, ◌/◌, ◌%◌, ℕ, Option, Some, None, if◌then◌else◌}
+use Rattle.std.specs.Prelude.{◌≡◌, ◌==◌, ◌+◌, ◌/◌, ◌%◌, ℕ, Option, Some, None, if◌then◌else◌}
 use Rattle.iris_name.specs.declared.name.FileId.{FileId}
 use Rattle.iris_name.specs.declared.name.Name.{Name}
 use Rattle.iris_name.specs.declared.note.Expect.TheVariants.{Hash}
@@ -15,8 +15,6 @@ use Rattle.iris_node.specs.declared.node.Body.TheVariants.{Dir, File}
 use Rattle.iris_node.specs.declared.node.Node.{Node}
 use Rattle.iris_node.specs.declared.node.Node.TheVariants.{Entry, Part}
 use Rattle.iris_node.specs.Fields.{EntryFields, PartFields}
-use Rattle.iris_cache.specs.Hashes.{IsSideAs}
-use Rattle.iris_cache.specs.Resident.{Resident, held}
 
 -- the part that is seen, if one is
 abbrev pub part_seen : Option Node → Option PartFields
@@ -81,16 +79,3 @@ AreHalvesOf (Below h) (Some p) low high = (low ≡ p.low) × (high ≡ p.high)
 abbrev pub IsNeedOf : Side → Name → Short → Type 0
 IsNeedOf (Fold x) n e = ⊥
 IsNeedOf (Below h) n e = e ≡ Need n (Hash h)
-
--- a side holds the hash that another holds, if both hold one
-abbrev pub IsAsSide : Side → Option Side → Type 0
-IsAsSide s None = Unit {0}
-IsAsSide s (Some r) = IsSideAs s r
-
--- a side of a part holds the hash that the resident node over the part holds
-abbrev pub IsAsHeld : Side → Resident → FileId → ℕ → ℕ → Type 0
-IsAsHeld s c file level index = IsAsSide s (held_side (held c (over_name file level index)) index)
-
--- two halves of a part hold the hashes that the resident part holds
-abbrev pub AreAsHeld : Side → Side → Resident → FileId → ℕ → ℕ → Type 0
-AreAsHeld low high c file level index = IsAsHeld low c file (level - 1) (2 * index) × IsAsHeld high c file (level - 1) (2 * index + 1)

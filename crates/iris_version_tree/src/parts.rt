@@ -7,12 +7,11 @@ ghost use Rattle.iris_node.specs.Rules.{IsFold};
 ghost use Rattle.iris_node.specs.declared.node.Side.TheVariants.{Below as Hashed};
 ghost use Rattle.iris_cache.specs.Resident.{held};
 ghost use Rattle.iris_cache.specs.Drafted.{drafted, known, seen};
-ghost use Rattle.iris_cache.specs.Hashes.{HoldsAsHeld};
 ghost use Rattle.iris_node.specs.Trees.{Shown};
-ghost use Rattle.iris_cache.specs.Pictures.{Pictures, IsSettled, IsHashOf};
+ghost use Rattle.iris_cache.specs.Pictures.{Pictures, WasHash};
 ghost use Rattle.iris_version_tree.specs.Versions.{HadVersions, places};
-ghost use Rattle.iris_version_tree.specs.Sides.{part_seen, common_of, side_below, over_name, held_side, IsBelow, AreHalvesOf, AreAsHeld, IsAsHeld, IsNeedOf};
-ghost use Rattle.iris_version_tree.specs.Ranges.{IsKnownBelow, Joins, JoinsHashes};
+ghost use Rattle.iris_version_tree.specs.Sides.{part_seen, common_of, side_below, over_name, held_side, IsBelow, AreHalvesOf, IsNeedOf};
+ghost use Rattle.iris_version_tree.specs.Ranges.{IsKnownBelow, Joins};
 
 use crate::walk::part_at;
 use iris_cache::{Cache, Draft, Short};
@@ -61,8 +60,7 @@ fn side_held(cache: &Cache, file: FileId, level: u8, index: u32) -> Option<Side>
 fn hash_held(cache: &Cache, file: FileId, level: u8, index: u32) -> Hash32
     requires level { level ≤ 16 }
     requires fits { (index + 1) * 2 ^ level ≤ places }
-    ensures hash { (old : Shown) → Pictures old cache.now → HadVersions old file → IsSome (held cache.now (Name.Part file level index)) → IsSettled (held cache.now (Name.Part file level index)) → IsHashOf (old (Name.Part file level index)) result }
-    ensures as_held { IsAsHeld (Hashed result) cache.now file level index }
+    ensures { (old : Shown) → Pictures old cache.now → HadVersions old file → IsSome (held cache.now (Name.Part file level index)) → WasHash old cache.now (Name.Part file level index) result }
 {
     match side_held(cache, file, level, index) {
         Some(Side::Below(hash)) => hash,
@@ -77,8 +75,7 @@ fn side_of_part(cache: &Cache, file: FileId, level: u8, index: u32, was: Side) -
     requires fits { (index + 1) * 2 ^ level ≤ places }
     ensures below { IsBelow result }
     ensures kept { IsBelow was → result ≡ was }
-    ensures held { (h : Hash32) → result ≡ Hashed h → (IsBelow was → ⊥) → (old : Shown) → Pictures old cache.now → HadVersions old file → IsSome (held cache.now (Name.Part file level index)) → IsSettled (held cache.now (Name.Part file level index)) → IsHashOf (old (Name.Part file level index)) h }
-    ensures as_held { IsAsHeld was cache.now file level index → IsAsHeld result cache.now file level index }
+    ensures held { (h : Hash32) → result ≡ Hashed h → (IsBelow was → ⊥) → (old : Shown) → Pictures old cache.now → HadVersions old file → IsSome (held cache.now (Name.Part file level index)) → WasHash old cache.now (Name.Part file level index) h }
 {
     match was {
         Side::Below(_) => was,
@@ -115,11 +112,9 @@ pub(crate) fn halves_of(
     ensures halves { IfOk result (λ r. AreHalvesOf side (part_seen (seen draft.now cache.now (Name.Part file level index))) r.low r.high) }
     ensures known { IfOk result (λ _. IsKnownBelow side (known draft.now cache.now (Name.Part file level index))) }
     ensures floor { IfOk result (λ r. level ≡ 1 → IsFold r.low × IsFold r.high) }
-    ensures as_held { IfOk result (λ r. 1 ≤ level → level ≤ 16 → HoldsAsHeld draft.now cache.now → AreAsHeld r.low r.high cache.now file level index) }
     ensures short { IfErr result (IsNeedOf side (Name.Part file level index)) }
     ensures missing { IfErr result (λ _. known draft.now cache.now (Name.Part file level index) ≡ None) }
 {
-    cache.sound();
     let hash = match side {
         Side::Fold(_) => {
             return Ok(Halves {
@@ -159,7 +154,6 @@ pub(crate) fn join(
     requires floor { level ≡ 1 → IsFold halves.low × IsFold halves.high }
     ensures frame { OnOk result ((n : SpecName) → same_name (Name.Part file level index) n ≡ false → drafted draft.new n ≡ drafted draft.old n) }
     ensures made { IfOk result (λ s. (old : Shown) → (v : ℕ → ℕ) → (w : ℕ → ℕ) → Joins old draft.old draft.new cache.now file v w level index was halves.low halves.high s) }
-    ensures as_held { IfOk result (λ s. JoinsHashes draft.old draft.new cache.now file level index was halves.low halves.high s) }
     ensures err { IfErr result (λ e. e ≡ Short.NoMemory) }
 {
     let name = Name::Part { file, level, index };

@@ -7,13 +7,12 @@ ghost use Rattle.iris_node.specs.Fields.{EntryFields};
 ghost use Rattle.iris_node.specs.Rules.{IsFold};
 ghost use Rattle.iris_shape.specs.FoldLaws.{changed};
 ghost use Rattle.iris_cache.specs.Drafted.{drafted, seen, set_to};
-ghost use Rattle.iris_cache.specs.Hashes.{HoldsAsHeld};
 ghost use Rattle.iris_node.specs.Trees.{Shown, IsTree};
 ghost use Rattle.iris_cache.specs.Pictures.{parent_after, Drafts};
 ghost use Rattle.iris_version_tree.specs.Versions.{Versioned, HadVersions, Reversions, places};
 ghost use Rattle.iris_version_tree.specs.Needs.{IsFile, HasEntryWith, IsShort};
 ghost use Rattle.iris_version_tree.specs.Sides.{body_with, entry_with, side_seen};
-ghost use Rattle.iris_version_tree.specs.Ranges.{Frame, IsWithin, KeepsHashes, Turns, IsMissing};
+ghost use Rattle.iris_version_tree.specs.Ranges.{Frame, IsWithin, Turns, IsMissing};
 
 use crate::parts::{Halves, halves_of, join};
 use crate::walk::{file_entry, top_side};
@@ -58,7 +57,6 @@ fn set_range(
     requires floor { level ≡ 0 → IsFold side }
     ensures frame { OnOk result (Frame draft.old draft.new file level index) }
     ensures made { IfOk result (λ s. (old : Shown) → (v : ℕ → ℕ) → Turns old draft.old draft.new cache.now file v (changed v span.low span.high span.version) level index side s) }
-    ensures as_held { IfOk result (λ s. KeepsHashes draft.old draft.new cache.now file level index side s) }
     ensures floor { IfOk result (λ s. level ≡ 0 → IsFold s) }
     ensures short { IfErr result (IsMissing draft.old cache.now file level index side span.low span.high) }
 {
@@ -157,8 +155,6 @@ pub fn plan_set(
     ensures entry { OnOk result ((e : EntryFields) → seen draft.old cache.now (Name.Entry file) ≡ Some (Node.Entry e) → HasEntryWith draft.new cache.now file e) }
     ensures file { OnOk result (IsFile draft.new cache.now file) }
     ensures others { OnOk result ((n : SpecName) → (IsWithin file 16 0 n → ⊥) → (n ≡ Name.Entry file → ⊥) → drafted draft.new n ≡ drafted draft.old n) }
-    // So a draft that is sparing by its hashes stays sparing.
-    ensures as_held { OnOk result (HoldsAsHeld draft.old cache.now → HoldsAsHeld draft.new cache.now) }
     ensures short { IfErr result (IsShort draft.old cache.now file low high) }
 {
     let side = top_side(draft, cache, file);

@@ -5,11 +5,10 @@ ghost use Rattle.std.specs.Option.{option_copied};
 ghost use Rattle.iris_node.specs.Rules.{IsEntry};
 ghost use Rattle.iris_shape.specs.Folds.{folded, One};
 ghost use Rattle.iris_cache.specs.Drafted.{known, seen};
-ghost use Rattle.iris_cache.specs.Hashes.{HoldsAsHeld};
 ghost use Rattle.iris_node.specs.Trees.{Shown};
 ghost use Rattle.iris_version_tree.specs.Versions.{Versioned, places};
 ghost use Rattle.iris_version_tree.specs.Needs.{IsFile, IsFileNode, IsLack};
-ghost use Rattle.iris_version_tree.specs.Sides.{part_seen, side_seen, toward, IsAsHeld};
+ghost use Rattle.iris_version_tree.specs.Sides.{part_seen, side_seen, toward};
 
 use iris_cache::{Cache, Draft, Short};
 use iris_name::{Expect, FileId, Hash32, Name};
@@ -74,9 +73,7 @@ pub(crate) fn top_side(draft: &Draft, cache: &Cache, file: FileId) -> Side
     requires { IsFile draft.now cache.now file }
     ensures side { side_seen (seen draft.now cache.now (Name.Entry file)) ≡ Some result }
     ensures file { 2 ≤ file.0 }
-    ensures as_held { HoldsAsHeld draft.now cache.now → IsAsHeld result cache.now file 16 0 }
 {
-    cache.sound();
     match file_entry(draft, cache, file).body {
         Body::File { versions, .. } => versions,
         Body::Dir { .. } => unreachable!(),

@@ -13,7 +13,6 @@ use Rattle.iris_version_tree.proofs.Levels.{index_fits}
 use Rattle.iris_version_tree.proofs.Tables.{same_one}
 use Rattle.iris_version_tree.proofs.Hashes.{over_is}
 use Rattle.iris_version_tree.proofs.Joins.{common-apart, common-fold, join_ones, join_apart, at_even, at_removed, at_set, is_resident, written, there_below, even_side, set_side}
-use Rattle.iris_version_tree.proofs.AsHeld.{part_as}
 use Rattle.iris_version_tree.proofs.parts.join.Goals as goal
 
 pub invariant_of-part : goal.invariant_of-part
@@ -77,11 +76,5 @@ returns-in_ok-set-in-None-clause-made c = λ old v w k e pic had at was there lo
     let two : IsTwo (folded w l i) = subst IsTwo (sym g) tt in
     let had' = is_resident old q f l i r (folded v l i) o at there' in (
       subst (λ o. AtPart old q f l i (folded w l i) o r) (sym z) (subst (λ g. AtPart old q f l i g (Some x) r) (sym g) at'),
-      set_side old q f v w l i c.args.was c.side_of_part.result two was had' c.side_of_part.ensures.below c.side_of_part.ensures.kept (λ h is none. c.side_of_part.ensures.held h is none old pic had),
+      set_side old q f v w l i c.args.was c.side_of_part.result pic two was had' c.side_of_part.ensures.below c.side_of_part.ensures.kept (λ h is none. c.side_of_part.ensures.held h is none old pic had),
     )
-
-pub returns-in_ok-set-in-None-clause-as_held : goal.returns-in_ok-set-in-None-clause-as_held
-returns-in_ok-set-in-None-clause-as_held c = λ are has was. (
-  part_as c.args.draft.now c.set.new.self c.args.cache.now c.args.file c.args.level c.args.index c.args.halves.low c.args.halves.high (Some c.over.result) c.requires.some c.requires.level c.in_ok-set-in-None.ensures.names are has,
-  c.side_of_part.ensures.as_held was,
-)

@@ -1,5 +1,5 @@
 use Rattle.std.specs.Prelude.{Result, Ok, Err, IfOk, OnOk}
-use Rattle.std.proofs.lemmas.Result.{on_ok_weaker, IfErr-weaker, IfOk-weaker}
+use Rattle.std.proofs.lemmas.Result.{on_ok_weaker, IfErr-weaker}
 use Rattle.iris_name.specs.Names.{same_name}
 use Rattle.iris_name.specs.declared.name.Name.{Name}
 use Rattle.iris_name.specs.declared.name.Name.TheVariants as name
@@ -14,14 +14,13 @@ use Rattle.iris_shape.specs.Folds.{folded}
 use Rattle.iris_shape.specs.FoldLaws.{changed}
 use Rattle.iris_shape.proofs.FoldProofs.{folded_even}
 use Rattle.iris_version_tree.specs.Reached.{IsSideOf}
-use Rattle.iris_version_tree.specs.Ranges.{Joins, JoinsHashes, KeepsHashes, Turns, IsMissing}
+use Rattle.iris_version_tree.specs.Ranges.{Joins, Turns, IsMissing}
 use Rattle.iris_version_tree.proofs.Levels.{low_fits, high_fits, at_zero}
 use Rattle.iris_version_tree.proofs.Tables.{same_one}
 use Rattle.iris_version_tree.proofs.Joins.{even_side}
 use Rattle.iris_version_tree.proofs.Spans.{changed-out, changed-in}
 use Rattle.iris_version_tree.proofs.Sets.{under_same, side_same, under_even, under_place}
 use Rattle.iris_version_tree.proofs.Steps.{set_level, frame_level, covering, missing_here, missing_low, missing_high}
-use Rattle.iris_version_tree.proofs.AsHeld.{keeps_level}
 use Rattle.iris_version_tree.proofs.setting.+set_range.Goals as goal
 use Rattle.iris_version_tree.proofs.setting.+set_range.Goals.{then-past-span-via-then-past-span, then-past-span-via-else-past-span+then-span-first}
 
@@ -157,17 +156,3 @@ pub returns-clause-short : goal.returns-clause-short
 returns-clause-short t c =
     let M : Short → Type 0 = IsMissing c.args.draft.now c.args.cache.now c.args.file c.args.level c.args.index c.args.side c.args.span.low c.args.span.high in
     IfErr-weaker c.join.result (λ e. e ≡ NoMemory) M (λ e is. subst M (sym is) tt) c.join.ensures.err
-
-pub returns-clause-as_held : goal.returns-clause-as_held
-returns-clause-as_held t c =
-    let q = c.args.cache.now in
-    let l = c.args.level in
-    let i = c.args.index in
-    let was = c.in_ok-was.was' in
-    let some : 1 ≤ l = omega (arith, c.if-level-eq0.false) in
-    IfOk-weaker c.join.result
-    (λ made. JoinsHashes c.set_range-2.new.draft c.join.new.draft q c.args.file l i c.args.side c.in_ok-low.low c.in_ok-high.high made)
-    (λ made. KeepsHashes c.args.draft.now c.join.new.draft q c.args.file l i c.args.side made)
-    (λ made j. keeps_level c.args.draft.now c.set_range.new.draft c.set_range-2.new.draft c.join.new.draft q c.args.file l i c.args.side was.low was.high c.in_ok-low.low c.in_ok-high.high made
-    (c.in_ok-was.ensures.as_held some c.requires.level) c.in_ok-low.ensures.as_held c.in_ok-high.ensures.as_held j)
-    c.join.ensures.as_held

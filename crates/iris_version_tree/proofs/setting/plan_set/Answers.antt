@@ -1,12 +1,9 @@
-use Rattle.std.proofs.Common.{◌∙◌}
 use Rattle.std.proofs.lemmas.Result.{err_from_is_err_and}
 use Rattle.iris_name.specs.declared.name.Name.TheVariants as name
 use Rattle.iris_cache.specs.Drafted.{seen}
 use Rattle.iris_shape.specs.FoldLaws.{changed}
 use Rattle.iris_version_tree.proofs.Plans.{short_of, under_of, side_of_top}
-use Rattle.iris_cache.specs.Pictures.{parent_after}
-use Rattle.iris_version_tree.proofs.AsHeld.{entry_as}
-use Rattle.iris_version_tree.proofs.Written.{seen_same, drafts_after, file_seen, left, set, left_entry, set_entry, file_after, others_after}
+use Rattle.iris_version_tree.proofs.Written.{drafts_after, file_seen, left, set, left_entry, set_entry, file_after, others_after}
 use Rattle.iris_version_tree.proofs.setting.plan_set.Goals as goal
 
 pub returns-in_err-made-clause-short : goal.returns-in_err-made-clause-short
@@ -63,16 +60,3 @@ returns-then-is_same_side-clause-file c = file_after c.args.file c.args.draft.no
 
 pub returns-then-is_same_side-clause-others : goal.returns-then-is_same_side-clause-others
 returns-then-is_same_side-clause-others c = λ n out isnt. c.in_ok-made.ensures.frame n out
-
-pub returns-clause-as_held : goal.returns-clause-as_held
-returns-clause-as_held c = λ has.
-    let d = c.args.draft.now in
-    let q = c.args.cache.now in
-    let f = c.args.file in
-    let x = file_seen (seen d q (name.Entry f)) c.requires.entry in
-    let k = c.in_ok-made.ensures.as_held has (c.top_side-side.ensures.as_held has) in
-    entry_as d c.set_range.new.draft c.set_entry.new.draft q f x.0 c.in_ok-made.made (parent_after c.set_range.new.draft q (name.Entry f)) x.1 has
-    (c.in_ok-set_entry.ensures.entry x.0 (seen_same d c.set_range.new.draft q (name.Entry f) (c.in_ok-made.ensures.frame (name.Entry f) (λ q. q)) ∙ x.1)) c.in_ok-set_entry.ensures.frame k.1 k.0
-
-pub returns-then-is_same_side-clause-as_held : goal.returns-then-is_same_side-clause-as_held
-returns-then-is_same_side-clause-as_held c = λ has. (c.in_ok-made.ensures.as_held has (c.top_side-side.ensures.as_held has)).0
