@@ -23,7 +23,7 @@ use Rattle.iris_shape.specs.Treap.{Treap, Over, Each, rows, treap, put, without}
 use Rattle.iris_shape.proofs.Treaps.{rows_treap}
 use Rattle.iris_cache.specs.Resident.{Resident, held}
 use Rattle.iris_cache.specs.Drafted.{Drafted, drafted, known, seen, known_by, there_by, taken_away, set_to}
-use Rattle.iris_cache.specs.Pictures.{IsLike, IsSettled, IsHashOf, Holds, parent_after, parent_by}
+use Rattle.iris_cache.specs.Pictures.{IsLike, WasHash, Holds, parent_after, parent_by}
 use Rattle.iris_dirtree.specs.Counts.{count_of, counted}
 use Rattle.iris_dirtree.specs.Hands.{Holding, IsBelowHand, IsOut}
 use Rattle.iris_dirtree.specs.Lags.{Lags, IsUpFrom}
@@ -577,14 +577,14 @@ module _ (old new made : Shown) (from to : Option Row) (key : List ℕ) (dir : F
       let own : node_name v.0 ≡ Some p = sym (refilled_name dir.0 inside v.0) ∙ ap node_name v.2 ∙ named.1 ∙ ap Some (made_is.own p named.0 parent.parent parent.live named.1) in
       ap said live ∙ refilled_counts made made_is dir.0 inside v.0 p q live own (never_over made made_is p top over) parent way ∙ ap (λ o. option_map (counted q (count_of (made q))) (said o)) (sym v.1)
 
-  hashes-all : (n m : Name) (g : Node) (h : Hash32) → seen e c n ≡ Some g → Holds g m h → IsSettled (held c m) → IsHashOf (old m) h
-  hashes-all n m g h s holds settled = by (place dir before after n)
+  hashes-all : (n m : Name) (g : Node) (h : Hash32) → seen e c n ≡ Some g → Holds g m h → WasHash old c m h
+  hashes-all n m g h s holds = by (place dir before after n)
     where
-      by : Place dir before after n → IsHashOf (old m) h
-      by (AtDir x) = planted.hashes n m g h (inr x) s holds settled
-      by (AtRow y k x) = planted.hashes n m g h (inl (now-named y n k x)) s holds settled
+      by : Place dir before after n → WasHash old c m h
+      by (AtDir x) = planted.hashes n m g h (inr x) s holds
+      by (AtRow y k x) = planted.hashes n m g h (inl (now-named y n k x)) s holds
       by (AtGone y k x f) = absurd (true≢false (sym (ap is_some (sym (unseen-gone n (gone-seen y n k x f)) ∙ s))))
-      by (AtElse off k) = holding.hashes n m g h (sym (seen-same n (drafted-else n off k)) ∙ s) holds settled
+      by (AtElse off k) = holding.hashes n m g h (sym (seen-same n (drafted-else n off k)) ∙ s) holds
       by (AtBlock f k x) = absurd (block-seen f k g (ap (seen e c) (sym x) ∙ s))
 
   -- ---- parents

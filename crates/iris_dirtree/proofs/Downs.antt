@@ -5,7 +5,7 @@ use Rattle.std.proofs.lemmas.Bool.{both_ways, cond-true, cond-false}
 use Rattle.iris_shape.specs.Treap.{Treap, Over, rows, Each}
 use Rattle.iris_shape.specs.Order.{less_name, Rising}
 use Rattle.iris_shape.proofs.Orders.{less_not, less_through}
-use Rattle.iris_shape.proofs.Treaps.{each_left, each_right}
+use Rattle.iris_shape.proofs.Treaps.{each_left, each_right, each_map, each_both}
 use Rattle.iris_dirtree.specs.Rows.{Row, row_name}
 use Rattle.iris_dirtree.specs.Ways.{Any, along, before, is_named}
 
@@ -27,14 +27,6 @@ pub any_split : {A : Type 0} (P : A → Type 0) (a b : List A) → Any P (a ++ b
 any_split P [] b h = inr h
 any_split P (y ∷ a) b (inl h) = inl (inl h)
 any_split P (y ∷ a) b (inr h) = elim (any_split P a b h) [ inl k ↦ inl (inr k) | inr k ↦ inr k ]
-
-pub each_map : {A : Type 0} (P Q : A → Type 0) (xs : List A) → ((z : A) → P z → Q z) → Each P xs → Each Q xs
-each_map P Q [] f h = tt
-each_map P Q (x ∷ xs) f h = (f x h.0, each_map P Q xs f h.1)
-
-pub each_join : {A : Type 0} (P : A → Type 0) (a b : List A) → Each P a → Each P b → Each P (a ++ b)
-each_join P [] b h k = k
-each_join P (x ∷ a) b h k = (h.0, each_join P a b h.1 k)
 
 pub rising_left : {A : Type 0} (name : A → List ℕ) (a b : List A) → Rising name (a ++ b) → Rising name a
 rising_left name [] b h = tt
@@ -103,7 +95,7 @@ down_none n t w (less y l m d a b) rise h =
     let after = rising_right row_name (rows l) (y ∷ rows m) R in
     let lt : less_name n y.name ≡ true = other (less_name y.name n) (less_name n y.name) b a in
     down_none n t (Over y l m) d rise
-    (each_join (λ r. r.name ≡ n → ⊥) (rows l) (y ∷ rows m) h
+    (each_both (λ r. r.name ≡ n → ⊥) (rows l) (y ∷ rows m) h
     (λ e. less_apart n y.name lt (sym e), each_map (λ (z : Row). less_name y.name z.name ≡ true) (λ r. r.name ≡ n → ⊥) (rows m) (λ z k e. less_apart n z.name (less_through n y.name z.name lt k) (sym e)) after.0))
   where
     other : (p q : Bool) → p ≡ false → (not p && not q) ≡ false → q ≡ true
@@ -114,6 +106,6 @@ down_none n t w (more y l m d a b) rise h =
     let R = down_rising row_name (before n) (is_named n) t (Over y l m) d rise in
     let before_y = rising_before row_name (rows l) y (rows m) R in
     down_none n t (Over y l m) d rise
-    (each_join (λ r. r.name ≡ n → ⊥) (rows l) (y ∷ rows m)
+    (each_both (λ r. r.name ≡ n → ⊥) (rows l) (y ∷ rows m)
     (each_map (λ (z : Row). less_name z.name y.name ≡ true) (λ r. r.name ≡ n → ⊥) (rows l) (λ z k e. less_apart z.name n (less_through z.name y.name n k b) e) before_y)
     (λ e. less_apart y.name n b e, h))

@@ -11,7 +11,7 @@ use Rattle.iris_node.specs.declared.node.Node.{Node}
 use Rattle.iris_node.specs.declared.node.Node.TheVariants as node
 use Rattle.iris_node.specs.Fields.{EntryFields}
 use Rattle.iris_node.specs.Local.{Lead, led, led_by, local, local_of, entry_local}
-use Rattle.iris_node.specs.Trees.{Shown, IsAbove, node_name}
+use Rattle.iris_node.specs.Trees.{Shown, IsAbove, IsParent, node_name}
 use Rattle.iris_node.specs.Unfolded.{Unfolded, Absent, Folder, Leaf, Even, Split, Stored, id_of, blocks}
 use Rattle.iris_cache.specs.declared.held.Held.{Held}
 use Rattle.iris_cache.specs.Laws.{AreFormed, IsFormed, IsSide}
@@ -114,25 +114,32 @@ of_link : (k : Node) (i : FileId) (o : Option Link) (x : Hash32) → IsLinkIn k 
 of_link k i None x is holds = absurd (is x holds)
 of_link k i (Some l) x is holds = (l, refl, is)
 
--- what was found is the true hash
+module _ (old : Shown) (c : Resident) (i : FileId) (o : Option Link) (x : Hash32) (formed : AreFormed old) (pic : Pictures old c)
+    (found : (h g : Held) → (p : Name) → held c (name.Entry i) ≡ Some h → h.parent ≡ Some p → held c p ≡ Some g → IsLinkIn g.node i o) (is : (l : Link) → o ≡ Some l → l.hash ≡ x) where
+  -- what was found is the hash that the resident parent holds
+  found_held : (h g : Held) (p : Name) → held c (name.Entry i) ≡ Some h → h.parent ≡ Some p → held c p ≡ Some g → IsParent old p (name.Entry i) → Holds g.node (name.Entry i) x
+  found_held h g p at up over par =
+      let P : Option Unfolded → Type 0 = λ v. IsLike v g.node in
+      let like = subst P par.live (pic.nodes p g over) in
+      let some_hash = holds_entry i par.child par.named par.parent g.node (formed p par.parent par.live) par.above like in
+      let l = of_link g.node i o some_hash.0 (found h g p at up over) some_hash.1 in
+      subst (Holds g.node (name.Entry i)) (is l.0 l.1) l.2
+
+-- what was found is the true hash, or the one that the resident parent holds
 pub true_hash : (old : Shown) (c : Resident) (i : FileId) (o : Option Link) (x : Hash32) → 2 ≤ i.0 → IsRooted old → AreFormed old → Pictures old c → IsSome (held c (name.Entry i))
     → ((h g : Held) → (p : Name) → held c (name.Entry i) ≡ Some h → h.parent ≡ Some p → held c p ≡ Some g → IsLinkIn g.node i o) → ((l : Link) → o ≡ Some l → l.hash ≡ x) → WasHash old c (name.Entry i) x
-true_hash old c i o x le rooted formed pic some found is settled u live = elim (rooted (name.Entry i) u live tt) [
-  | inl r ↦ absurd (no_root i le r)
-  | inr r ↦
-      let n = name.Entry i in
-      let p = r.0 in
-      let par = r.1 in
-      let h = got (held c n) some in
-      let up = pic.parents n p h.0 h.1 par in
-      let g = got (held c p) up.1 in
-      let link = found h.0 g.0 p h.1 up.0 g.1 in
-      let P : Option Unfolded → Type 0 = λ v. IsLike v g.0.node in
-      let like = subst P par.live (pic.nodes p g.0 g.1) in
-      let some_hash = holds_entry i par.child par.named par.parent g.0.node (formed p par.parent par.live) par.above like in
-      let l = of_link g.0.node i o some_hash.0 link some_hash.1 in
-      pic.hashes p n g.0 l.0.hash g.1 l.2 settled u live ∙ ap Some (is l.0 l.1)
-]
+true_hash old c i o x le rooted formed pic some found is = (
+  (λ settled u live. elim (rooted (name.Entry i) u live tt) [
+    | inl r ↦ absurd (no_root i le r)
+    | inr r ↦
+        let n = name.Entry i in
+        let h = got (held c n) some in
+        let up = pic.parents n r.0 h.0 h.1 r.1 in
+        let g = got (held c r.0) up.1 in
+        pic.hashes r.0 n g.0 x g.1 (found_held old c i o x formed pic found is h.0 g.0 r.0 h.1 up.0 g.1 r.1) settled u live
+  ]),
+  (λ h g p at up over. found_held old c i o x formed pic found is h g p at up over (pic.tied (name.Entry i) p h at up)),
+)
 
 pub same_hash : (k l : Link) → Some k ≡ Some l → k.hash ≡ l.hash
 same_hash k l h = let e : k ≡ l = cc in ap (λ x. x.hash) e

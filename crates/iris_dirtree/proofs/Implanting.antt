@@ -17,12 +17,12 @@ use Rattle.iris_node.specs.Trees.{Shown, IsTree}
 use Rattle.iris_node.specs.Unfolded.{Unfolded, id_of, blocks}
 use Rattle.iris_shape.specs.Order.{beats}
 use Rattle.iris_shape.specs.Treap.{Treap, Empty, Over, treap, rows, low, high, insert, put, way, Each}
-use Rattle.iris_shape.proofs.Treaps.{rows_treap}
+use Rattle.iris_shape.proofs.Treaps.{rows_treap, each_map}
 use Rattle.iris_cache.specs.declared.held.Held.{Held}
 use Rattle.iris_cache.specs.declared.draft.Change.{Change}
 use Rattle.iris_cache.specs.Resident.{Resident, held}
 use Rattle.iris_cache.specs.Drafted.{Drafted, drafted, seen, known_by, there_by, set_to}
-use Rattle.iris_cache.specs.Pictures.{Holds, BodyHolds, parent_after}
+use Rattle.iris_cache.specs.Pictures.{IsLike, Holds, BodyHolds, parent_after}
 use Rattle.iris_dirtree.specs.declared.inserting.Crumb.{Crumb}
 use Rattle.iris_dirtree.specs.Rows.{Row, entries, up, Rearranges, IsCountable}
 use Rattle.iris_dirtree.specs.Ways.{before}
@@ -39,7 +39,6 @@ use Rattle.iris_dirtree.proofs.Walks.{crumbs_there}
 use Rattle.iris_dirtree.proofs.Halving.{in_low, in_high, over_known}
 use Rattle.iris_dirtree.proofs.Insertions.{in_any, any_in, once_treap, put_fresh, put_has, put_row, put_none, put_is, insert_around, seated, top_beaten, Built, built_low, built_high, built_around, within_around, way_around, blocks_split, over_both, none_inside}
 use Rattle.iris_dirtree.proofs.Grafting.{fits_of, top_seen, leads_of, likes_fit, hang_fit, hash_fit, stays_fit, few_top, halves_of, Grown}
-use Rattle.iris_dirtree.proofs.Downs.{each_map}
 use Rattle.iris_dirtree.proofs.Owned.{seen_same, parent_same, other_name, stays_seen}
 use Rattle.iris_dirtree.proofs.There.{never_none, is_there, not_both}
 
@@ -54,10 +53,10 @@ hand_resident old new d c i see out = hand_by old new d c i (drafted d (name.Ent
 
 -- the hash that the cache holds of the row in hand, if it was live before
 pub hand_hash : (old new : Shown) (d : Drafted) (c : Resident) (i : FileId) (x : Hash32) → Sees old new d c → new (name.Entry i) ≡ None → (IsSome (held c (name.Entry i)) → WasHash old c (name.Entry i) x) → WasHash old c (name.Entry i) x
-hand_hash old new d c i x see out h settled u live =
+hand_hash old new d c i x see out h =
     elim (hand_resident old new d c i see out) [
-      | inl r ↦ h r settled u live
-      | inr r ↦ (let P : Option Unfolded → Type 0 = λ o. IsSome o in absurd (not_both (old (name.Entry i)) u live r))
+      | inl r ↦ h r
+      | inr r ↦ ((λ settled u live. absurd (not_both (old (name.Entry i)) u live r)), (λ g k p at up above. (let P : Option Unfolded → Type 0 = λ o. IsLike o g.node in absurd (subst P r (see.before.nodes (name.Entry i) g at)))))
     ]
 
 module _ (key : List ℕ) (dir : FileId) (x : Row) (made_node : EntryFields) (d : Drafted) (c : Resident) (old new made : Shown) (xs : List Row) (n : List ℕ) where

@@ -12,7 +12,7 @@ use Rattle.iris_node.specs.Trees.{Shown}
 use Rattle.iris_node.specs.Unfolded.{id_of}
 use Rattle.iris_shape.specs.Treap.{Treap, treap, rows, high, skip, way, Each, Falls}
 use Rattle.iris_shape.specs.Order.{Rising}
-use Rattle.iris_shape.proofs.Treaps.{rows_treap, each_left, each_right, every_of}
+use Rattle.iris_shape.proofs.Treaps.{rows_treap, each_left, each_right, every_of, rows_high}
 use Rattle.iris_cache.specs.declared.held.Short.{Short}
 use Rattle.iris_cache.specs.declared.held.Short.TheVariants.{Need, NoMemory}
 use Rattle.iris_cache.specs.Pictures.{IsLike}
@@ -27,7 +27,7 @@ use Rattle.iris_dirtree.specs.Piles.{whole, right as right_part, Passed, passed_
 use Rattle.iris_dirtree.proofs.Sees.{Sees, sees_drafts}
 use Rattle.iris_dirtree.proofs.Likes.{like_row, above_more}
 use Rattle.iris_dirtree.proofs.Stands.{top_way, way_down, is_entry, link_holds}
-use Rattle.iris_dirtree.proofs.Pages.{falls_up_to, rows_high, skip_false, high_all, sub_rising, sub_along, spine, way_next, page_has}
+use Rattle.iris_dirtree.proofs.Pages.{falls_up_to, skip_false, high_all, sub_rising, sub_along, spine, way_next, page_has}
 use Rattle.iris_dirtree.proofs.Downs.{any_left, any_right}
 use Rattle.iris_dirtree.proofs.Pilings.{to_list_append}
 

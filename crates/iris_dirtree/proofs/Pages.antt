@@ -1,14 +1,14 @@
 -- Lists of rows from a name on, in a treap, and the ways to the rows of a page.
 use Rattle.std.proofs.Common.{◌≡◌, ◌&&◌, ◌<◌, not, ◌++◌, inl, inr, ◌⊎◌, ℕ, zero, suc, List, [], ◌∷◌, Bool, true, false, cond, refl, ap, sym, ◌∙◌, subst, take, length, arith}
-use Rattle.std.proofs.lemmas.Bool.{both_ways, cond-true, cond-false, not-false}
+use Rattle.std.proofs.lemmas.Bool.{cond-true, cond-false, not-false}
 use Rattle.iris_shape.specs.Treap.{Treap, Empty, Over, rows, high, skip, way, Each, Every, Falls}
 use Rattle.iris_shape.specs.Order.{less_name, Rising}
 use Rattle.iris_shape.proofs.Orders.{less_through}
-use Rattle.iris_shape.proofs.Treaps.{each_right, every_of, every_high, falls_left, falls_right}
+use Rattle.iris_shape.proofs.Treaps.{each_map, each_of, every_of, every_high}
 use Rattle.iris_dirtree.specs.Rows.{Row, row_name}
 use Rattle.iris_dirtree.specs.Ways.{Any, along, before, is_named, up_to, along_name, along_each}
 use Rattle.iris_dirtree.specs.Piles.{Sub, whole, left, right}
-use Rattle.iris_dirtree.proofs.Downs.{any_left, any_right, each_map, each_join, rising_left, rising_right, rising_before, less_back, less_same}
+use Rattle.iris_dirtree.proofs.Downs.{any_left, any_right, rising_left, rising_right, rising_before, less_back, less_same}
 
 -- ---- skipping
 
@@ -16,28 +16,6 @@ pub falls_up_to : (n : List ℕ) (xs : List Row) → Rising row_name xs → Fall
 falls_up_to n [] h = tt
 falls_up_to n (x ∷ xs) h =
     ((λ f. each_map (λ (z : Row). less_name x.name z.name ≡ true) (λ z. up_to n z ≡ false) xs (λ z k. ap (λ b. not b) (less_through n x.name z.name (not-false (less_name n x.name) f) k)) h.0), falls_up_to n xs h.1)
-
-skip_past : {A : Type 0} (p : A → Bool) (a : List A) (y : A) (b : List A) → Falls p (a ++ y ∷ b) → p y ≡ true → skip p (a ++ y ∷ b) ≡ skip p b
-skip_past p [] y b f t = cond-true (p y) (skip p b) (y ∷ b) t
-skip_past p (x ∷ a) y b f t = by (p x) refl (skip_past p a y b f.1 t)
-  where
-    by : (t : Bool) → p x ≡ t → skip p (a ++ y ∷ b) ≡ skip p b → skip p (x ∷ (a ++ y ∷ b)) ≡ skip p b
-    by true e ih = cond-true (p x) (skip p (a ++ y ∷ b)) (x ∷ (a ++ y ∷ b)) e ∙ ih
-    by false e ih = absurd (both_ways (p y) (each_right (λ z. p z ≡ false) a (y ∷ b) (f.0 e)).0 t)
-
-skip_stop : {A : Type 0} (p : A → Bool) (a : List A) (y : A) (b : List A) → p y ≡ false → skip p (a ++ y ∷ b) ≡ skip p a ++ y ∷ b
-skip_stop p [] y b f = cond-false (p y) (skip p b) (y ∷ b) f
-skip_stop p (x ∷ a) y b f = elim (p x) as (λ t. cond t (skip p (a ++ y ∷ b)) (x ∷ (a ++ y ∷ b)) ≡ cond t (skip p a) (x ∷ a) ++ y ∷ b) [ true ↦ skip_stop p a y b f | false ↦ refl ]
-
--- the rows from a name on
-pub rows_high : {A : Type 0} (p : A → Bool) (t : Treap A) → Falls p (rows t) → rows (high p t) ≡ skip p (rows t)
-rows_high p Empty f = refl
-rows_high p (Over y l m) f = by (p y) refl (rows_high p l (falls_left p (rows l) (y ∷ rows m) f)) (rows_high p m (falls_right p (rows l) (y ∷ rows m) f).1)
-  where
-    by : (t : Bool) → p y ≡ t → rows (high p l) ≡ skip p (rows l) → rows (high p m) ≡ skip p (rows m) → rows (high p (Over y l m)) ≡ skip p (rows l ++ y ∷ rows m)
-    by true e il im = ap rows (cond-true (p y) (high p m) (Over y (high p l) m) e) ∙ im ∙ sym (skip_past p (rows l) y (rows m) f e)
-    by false e il im =
-        ap rows (cond-false (p y) (high p m) (Over y (high p l) m) e) ∙ ap (λ a. a ++ y ∷ rows m) il ∙ sym (skip_stop p (rows l) y (rows m) e)
 
 pub skip_false : {A : Type 0} (p : A → Bool) (xs : List A) → Falls p xs → Each (λ z. p z ≡ false) (skip p xs)
 skip_false p [] f = tt
@@ -52,12 +30,8 @@ pub high_all : {A : Type 0} (p : A → Bool) (t : Treap A) → Every (λ z. p z 
 high_all p Empty h = refl
 high_all p (Over y l m) h = cond-false (p y) (high p m) (Over y (high p l) m) h.0 ∙ ap (λ l. Over y l m) (high_all p l h.1)
 
-pub each_rows : {A : Type 0} (P : A → Type 0) (t : Treap A) → Every P t → Each P (rows t)
-each_rows P Empty h = tt
-each_rows P (Over y l m) h = each_join P (rows l) (y ∷ rows m) (each_rows P l h.1) (h.0, each_rows P m h.2)
-
 pub each_high : {A : Type 0} (P : A → Type 0) (p : A → Bool) (t : Treap A) → Each P (rows t) → Each P (rows (high p t))
-each_high P p t h = each_rows P (high p t) (every_high P p t (every_of P t h))
+each_high P p t h = each_of P (high p t) (every_high P p t (every_of P t h))
 
 pub any_each : {A : Type 0} (f : A) (Q : A → Type 0) (xs : List A) → Any (λ r. r ≡ f) xs → Each Q xs → Q f
 any_each f Q [] a h = absurd a

@@ -14,6 +14,7 @@ use Rattle.iris_node.specs.Trees.{Shown}
 use Rattle.iris_node.specs.Unfolded.{id_of}
 use Rattle.iris_shape.specs.Treap.{Treap, Over, rows, high, way}
 use Rattle.iris_shape.specs.Order.{less_name}
+use Rattle.iris_shape.proofs.Treaps.{each_both}
 use Rattle.iris_cache.specs.declared.held.Short.{Short}
 use Rattle.iris_cache.specs.declared.held.Short.TheVariants.{Need}
 use Rattle.iris_cache.specs.Resident.{Resident}
@@ -27,7 +28,6 @@ use Rattle.iris_dirtree.proofs.Sees.{Sees, sees_drafts}
 use Rattle.iris_dirtree.proofs.Likes.{leads_empty, leads_over}
 use Rattle.iris_dirtree.proofs.Pasts.{past_bound}
 use Rattle.iris_dirtree.proofs.Stands.{Here, here, no_entry, is_entry}
-use Rattle.iris_dirtree.proofs.Downs.{each_join}
 
 -- the pile is listed from its end
 pub to_list_append : (a b : List Passed) → to_list (a ++ b) ≡ to_list b ++ to_list a
@@ -110,7 +110,7 @@ module _ (after : List ℕ) (d : Drafted) (c : Resident) (old new : Shown) (all 
             under = h.less;
             pile = s.pile ++ z ∷ [];
             ids_are = ap (λ a. a ++ l.id ∷ []) s.ids_are ∙ ap (λ i. map passed_id s.pile ++ i ∷ []) h.id_is ∙ sym (map-append passed_id s.pile (z ∷ []));
-            passed = each_join (IsPassed new d c all) s.pile (z ∷ []) s.passed (one, tt);
+            passed = each_both (IsPassed new d c all) s.pile (z ∷ []) s.passed (one, tt);
             left_are =
                 lists ∙ ap (λ w. rows w ++ to_list s.pile) (cond-false (p y) (high p h.more) (Over y (high p h.less) h.more) b)
                 ∙ append_assoc (rows (high p h.less)) (y ∷ rows h.more) (to_list s.pile)

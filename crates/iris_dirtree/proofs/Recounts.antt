@@ -236,7 +236,7 @@ module _ (old new made : Shown) (hand : Option Row) (at p : Name) (d e : Drafted
     above = λ n k s o. above-like n k o (from n k s);
     nodes = λ n k s free. likes-by n k free (from n k s);
     counts = counts-up;
-    hashes = λ n m k h s holds settled. (let f = from n k s in lags.hashes n m f.node h f.at_it (f.holds m h holds) settled);
+    hashes = λ n m k h s holds. (let f = from n k s in lags.hashes n m f.node h f.at_it (f.holds m h holds));
     parents = λ n q k s is. (let f = from n k s in let x = lags.parents n q f.node f.at_it is in (step.parents n ∙ x.0, stays q x.1));
     tied = λ n q k s up. (let f = from n k s in lags.tied n q f.node f.at_it (sym (step.parents n) ∙ up));
     hangs = λ n q k s is. (let f = from n k s in step.parents n ∙ lags.hangs n q f.node f.at_it is);

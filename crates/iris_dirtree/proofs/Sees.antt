@@ -12,7 +12,7 @@ use Rattle.iris_cache.specs.declared.draft.Change.{Change}
 use Rattle.iris_cache.specs.Resident.{Resident, held}
 use Rattle.iris_cache.specs.Drafted.{Drafted, drafted, seen, known, known_by, there_by}
 use Rattle.iris_cache.specs.Needs.{IsExpected}
-use Rattle.iris_cache.specs.Pictures.{Pictures, Drafts, IsLike, IsSettled, IsHashOf, Holds, parent_after}
+use Rattle.iris_cache.specs.Pictures.{Pictures, Drafts, IsLike, IsSettled, IsHashOf, WasHash, Holds, parent_after}
 use Rattle.iris_cache.proofs.Lacking.{unknown, parent_named, child_named, not_live, not_known}
 use Rattle.iris_dirtree.specs.Rows.{Row, IsRootName}
 use Rattle.iris_dirtree.specs.Hands.{Holding}
@@ -25,7 +25,7 @@ pub record Sees (old new : Shown) (d : Drafted) (c : Resident) : Type 0 where
   pub is : IsTree new
   pub before : Pictures old c
   pub nodes : (n : Name) (node : Node) → seen d c n ≡ Some node → IsLike (new n) node
-  pub hashes : (n m : Name) (node : Node) (x : Hash32) → seen d c n ≡ Some node → Holds node m x → IsSettled (held c m) → IsHashOf (old m) x
+  pub hashes : (n m : Name) (node : Node) (x : Hash32) → seen d c n ≡ Some node → Holds node m x → WasHash old c m x
   pub parents : (n p : Name) (node : Node) → seen d c n ≡ Some node → IsParent new p n → (parent_after d c n ≡ Some p) × IsSome (seen d c p)
   pub gone : (n : Name) → IsNodeName n → known d c n ≡ Some None → new n ≡ None
   pub away : (n : Name) → IsNodeName n → known d c n ≡ None → new n ≡ old n
@@ -73,7 +73,7 @@ module _ (old new : Shown) (d : Drafted) (c : Resident) (see : Sees old new d c)
       record {
         live = is_there (new n) parent.child now;
         lived = lived;
-        expected = inr (expected_by (old n) x lived (see.hashes p n node x sees holds (subst P (sym absent) tt)));
+        expected = inr (expected_by (old n) x lived ((see.hashes p n node x sees holds).0 (subst P (sym absent) tt)));
         parent = inr (λ q before. parent_resident n p q parent (is_there (seen d c p) node sees) before);
       }
 

@@ -87,7 +87,7 @@ module _ (key : List ℕ) (n : List ℕ) (dir : FileId) (x : Row) (d : Drafted) 
         record {
           live = is_there (new q) (row_entry y (entries lack.less) (entries lack.more)) now;
           lived = lived;
-          expected = inr (expected_by (old q) h lived (lack.hash (subst S (sym absent) tt)));
+          expected = inr (expected_by (old q) h lived (lack.hash.0 (subst S (sym absent) tt)));
           parent = inr (λ p before. parent_resident old new d c see q up_name p parent_q there before);
         },
       )

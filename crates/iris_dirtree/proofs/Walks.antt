@@ -12,6 +12,7 @@ use Rattle.iris_node.specs.Local.{led, led_by}
 use Rattle.iris_node.specs.Trees.{Shown}
 use Rattle.iris_shape.specs.Order.{less_name, beats}
 use Rattle.iris_shape.specs.Treap.{Treap, Over, Each}
+use Rattle.iris_shape.proofs.Treaps.{each_both}
 use Rattle.iris_cache.specs.declared.held.Short.{Short}
 use Rattle.iris_cache.specs.declared.held.Short.TheVariants.{Need, NoMemory}
 use Rattle.iris_cache.specs.Resident.{Resident}
@@ -24,7 +25,6 @@ use Rattle.iris_dirtree.specs.Grafts.{Fork, entry_name, forked, around, over, lo
 use Rattle.iris_dirtree.specs.Splits.{IsRead, Lacking, IsWayShort}
 use Rattle.iris_dirtree.proofs.Likes.{like_row, leads_over, leads_empty}
 use Rattle.iris_dirtree.proofs.Fitting.{fits_around}
-use Rattle.iris_dirtree.proofs.Downs.{each_join}
 
 -- ---- lists
 
@@ -131,8 +131,8 @@ lacking_below n old c d to t forks rest at ks q h w k =
       less = k.less;
       more = k.more;
       is = around_both k.forks forks (Over k.row k.less k.more) ∙ ap (around forks) k.is ∙ w.is;
-      passed = each_join (Passes n) k.forks forks k.passed w.passed;
-      there = each_join (λ s. IsSome (seen d c (entry_name s.row))) k.forks forks k.there (crumbs_there old c d to forks ks w.crumbs);
+      passed = each_both (Passes n) k.forks forks k.passed w.passed;
+      there = each_both (λ s. IsSome (seen d c (entry_name s.row))) k.forks forks k.there (crumbs_there old c d to forks ks w.crumbs);
       lacks = k.lacks;
       hash = k.hash;
     }

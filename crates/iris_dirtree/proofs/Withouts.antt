@@ -6,14 +6,14 @@ use Rattle.iris_name.specs.declared.name.Name.TheVariants as name
 use Rattle.iris_shape.specs.Order.{less_name, Rising, Distinct}
 use Rattle.iris_shape.specs.Treap.{Treap, Empty, Over, treap, rows, without, Each, Parts}
 use Rattle.iris_shape.proofs.Orders.{less_not, parts, falls, ranks, all_apart}
-use Rattle.iris_shape.proofs.Treaps.{every_of, each_left, each_right, treap_without}
+use Rattle.iris_shape.proofs.Treaps.{every_of, each_left, each_right, treap_without, each_map}
 use Rattle.iris_name.specs.Hmac.{priority}
 use Rattle.iris_dirtree.specs.Descents.{IsAmong, taken}
 use Rattle.iris_dirtree.specs.Planted.{IsRowName}
 use Rattle.iris_dirtree.specs.Rows.{Row, row_id, row_name, up}
 use Rattle.iris_dirtree.specs.Steps.{entry_name, Outside, Once}
 use Rattle.iris_dirtree.specs.Ways.{Any, before, is_named}
-use Rattle.iris_dirtree.proofs.Downs.{each_map, less_same, any_split}
+use Rattle.iris_dirtree.proofs.Downs.{less_same, any_split}
 use Rattle.iris_dirtree.proofs.Moved.{each_in, not_before}
 
 -- ---- rows of a list

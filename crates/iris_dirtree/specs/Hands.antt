@@ -11,7 +11,7 @@ use Rattle.iris_node.specs.Unfolded.{Absent, id_of}
 use Rattle.iris_cache.specs.declared.draft.Change.{Change}
 use Rattle.iris_cache.specs.Resident.{Resident, held}
 use Rattle.iris_cache.specs.Drafted.{Drafted, drafted, known, seen}
-use Rattle.iris_cache.specs.Pictures.{Pictures, IsLike, IsSettled, IsHashOf, Holds, BodyHolds, parent_after}
+use Rattle.iris_cache.specs.Pictures.{Pictures, IsLike, WasHash, Holds, BodyHolds, parent_after}
 use Rattle.iris_dirtree.specs.Rows.{Row, row_entry}
 pub use Rattle.iris_dirtree.specs.Rows.{below_row}
 
@@ -29,7 +29,7 @@ IsOut (Some x) t = t (name.Entry (id_of x.id)) ≡ None
 pub record Holding (old new : Shown) (hand : Option Row) (d : Drafted) (c : Resident) : Type 0 where
   pub before : Pictures old c
   pub nodes : (n : Name) (node : Node) → seen d c n ≡ Some node → IsLike (new n) node
-  pub hashes : (n m : Name) (node : Node) (h : Hash32) → seen d c n ≡ Some node → Holds node m h → IsSettled (held c m) → IsHashOf (old m) h
+  pub hashes : (n m : Name) (node : Node) (h : Hash32) → seen d c n ≡ Some node → Holds node m h → WasHash old c m h
   pub parents : (n p : Name) (node : Node) → seen d c n ≡ Some node → IsParent new p n → (parent_after d c n ≡ Some p) × IsSome (seen d c p)
   -- a node that is seen hangs from its parent, or from the row in hand
   pub tied : (n p : Name) (node : Node) → seen d c n ≡ Some node → parent_after d c n ≡ Some p → IsParent new p n ⊎ IsBelowHand hand p n
@@ -43,6 +43,6 @@ pub record Holding (old new : Shown) (hand : Option Row) (d : Drafted) (c : Resi
 abbrev pub IsRowNode : Row → EntryFields → Type 0
 IsRowNode x e = local (row_entry x Absent Absent) ≡ Some (entry_local (record { id = e.id; name = e.name; left = None; right = None; body = e.body }) e.body)
 
--- a hash that a row's node holds of an absent or a settled node below it was its true one before
+-- a hash that a row's node holds of the node below it was its true one before, or is the one that its resident parent holds
 abbrev pub HoldsTrue : Shown → Resident → EntryFields → Type 0
-HoldsTrue old c e = (m : Name) (h : Hash32) → BodyHolds e.id e.body m h → IsSettled (held c m) → IsHashOf (old m) h
+HoldsTrue old c e = (m : Name) (h : Hash32) → BodyHolds e.id e.body m h → WasHash old c m h

@@ -8,7 +8,7 @@ use Rattle.iris_node.specs.Trees.{Shown, IsNodeName, IsParent, said}
 use Rattle.iris_cache.specs.declared.draft.Change.{Change}
 use Rattle.iris_cache.specs.Resident.{Resident, held}
 use Rattle.iris_cache.specs.Drafted.{Drafted, drafted, known, seen}
-use Rattle.iris_cache.specs.Pictures.{Pictures, IsLike, IsSettled, IsHashOf, Holds, parent_after}
+use Rattle.iris_cache.specs.Pictures.{Pictures, IsLike, WasHash, Holds, parent_after}
 use Rattle.iris_dirtree.specs.Counts.{count_of, counted}
 use Rattle.iris_dirtree.specs.Hands.{IsBelowHand, IsOut}
 use Rattle.iris_dirtree.specs.Planted.{IsOver}
@@ -27,7 +27,7 @@ pub record Lags (old new made : Shown) (hand : Option Row) (child : Name) (d : D
   pub nodes : (n : Name) (node : Node) → seen d c n ≡ Some node → (IsOver made n child → ⊥) → IsLike (made n) node
   -- above the child nothing is other than in `new` but, in each node, the count of the one on the way
   pub counts : (p q : Name) → IsParent made p q → IsUpFrom made child q → said (made p) ≡ option_map (counted q (count_of (made q))) (said (new p))
-  pub hashes : (n m : Name) (node : Node) (h : Hash32) → seen d c n ≡ Some node → Holds node m h → IsSettled (held c m) → IsHashOf (old m) h
+  pub hashes : (n m : Name) (node : Node) (h : Hash32) → seen d c n ≡ Some node → Holds node m h → WasHash old c m h
   pub parents : (n p : Name) (node : Node) → seen d c n ≡ Some node → IsParent made p n → (parent_after d c n ≡ Some p) × IsSome (seen d c p)
   pub tied : (n p : Name) (node : Node) → seen d c n ≡ Some node → parent_after d c n ≡ Some p → IsParent made p n ⊎ IsBelowHand hand p n
   pub hangs : (n p : Name) (node : Node) → seen d c n ≡ Some node → IsBelowHand hand p n → parent_after d c n ≡ Some p

@@ -17,7 +17,7 @@ use Rattle.iris_shape.specs.Treap.{Treap, Empty, Over, rows}
 use Rattle.iris_cache.specs.declared.draft.Change.{Change}
 use Rattle.iris_cache.specs.Resident.{Resident, held}
 use Rattle.iris_cache.specs.Drafted.{Drafted, drafted, seen, set_to, taken_away}
-use Rattle.iris_cache.specs.Pictures.{IsLike, IsSettled, IsHashOf, Holds, parent_after}
+use Rattle.iris_cache.specs.Pictures.{IsLike, WasHash, Holds, parent_after}
 use Rattle.iris_dirtree.specs.Rows.{Row, entries, row_entry}
 use Rattle.iris_dirtree.specs.Ways.{Any}
 
@@ -61,8 +61,8 @@ pub record Planted (old : Shown) (dir : FileId) (t u : Treap Row) (d e : Drafted
   pub likes : Likes (seen e c) u
   pub hang : Hang (seen e c) (parent_after e c) (name.Entry dir) u
   pub stays : Stays (seen e c) t u
-  -- a hash that a row's node or the directory's holds of an absent or a settled node was its true one before
-  pub hashes : (n m : Name) (node : Node) (h : Hash32) → IsRowName (rows u) n ⊎ (n ≡ name.Entry dir) → seen e c n ≡ Some node → Holds node m h → IsSettled (held c m) → IsHashOf (old m) h
+  -- a hash that a row's node or the directory's holds of another node was its true one before, or is the one that its resident parent holds
+  pub hashes : (n m : Name) (node : Node) (h : Hash32) → IsRowName (rows u) n ⊎ (n ≡ name.Entry dir) → seen e c n ≡ Some node → Holds node m h → WasHash old c m h
   -- nothing else is changed
   pub others : (n : Name) → (IsRowName (rows t) n → ⊥) → (IsRowName (rows u) n → ⊥) → (n ≡ name.Entry dir → ⊥) → drafted e n ≡ drafted d n
   -- what is known of a row that is in both treaps stays known

@@ -11,9 +11,10 @@ use Rattle.iris_node.specs.Local.{led, led_by}
 use Rattle.iris_node.specs.Trees.{Shown}
 use Rattle.iris_node.specs.Unfolded.{Unfolded, id_of}
 use Rattle.iris_shape.specs.Treap.{Treap, Empty, Over, Each, Every}
-use Rattle.iris_cache.specs.Resident.{Resident, held}
+use Rattle.iris_cache.specs.Resident.{Resident}
 use Rattle.iris_cache.specs.Drafted.{Drafted, drafted, seen}
-use Rattle.iris_cache.specs.Pictures.{Holds, IsHashOf, IsLike, IsSettled, LinkHolds, parent_after}
+use Rattle.iris_cache.specs.Pictures.{Holds, IsLike, LinkHolds, parent_after}
+pub use Rattle.iris_cache.specs.Pictures.{WasHash}
 use Rattle.iris_dirtree.specs.declared.removing.Crumb.{Crumb}
 use Rattle.iris_dirtree.specs.Planted.{IsWithin}
 use Rattle.iris_dirtree.specs.Rows.{Row, entries, row_entry}
@@ -46,10 +47,6 @@ above p (x ∷ xs) = above (entry_name x.row) xs
 abbrev pub crumb_above : FileId → List Crumb → FileId
 crumb_above dir [] = dir
 crumb_above dir (e ∷ es) = crumb_above e.node.id es
-
--- a hash of a name was its true one before, where it is absent or settled
-abbrev pub WasHash : Shown → Resident → Name → Hash32 → Type 0
-WasHash old c n h = IsSettled (held c n) → IsHashOf (old n) h
 
 -- what is seen of an entry says what the entry says, and hangs from p
 pub record Seat (old : Shown) (c : Resident) (d : Drafted) (p n : Name) (u : Unfolded) (node : Node) : Type 0 where

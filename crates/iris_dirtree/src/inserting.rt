@@ -24,13 +24,13 @@ use crate::counting::recount;
 use crate::finding::longest_way;
 use crate::hashes::hash_held;
 use crate::nodes::{
-    between, copy_name, entry_at, id_of, is_named, link_to, set_top, side, stands_above,
+    between, copy_name, entry_at, hang, id_of, is_named, set_top, side, stands_above,
     stands_before, top_of, turn,
 };
 use iris_cache::{Cache, Draft, Short};
-use iris_mac::Keys;
+use iris_mac::{Keys, priority};
 use iris_name::{FileId, Hash32, Name, NoMemory, Text};
-use iris_node::{EntryNode, Link, Node};
+use iris_node::{EntryNode, Link};
 use std::alloc::Global;
 
 // An entry met on the way down, the hash by which it was reached, on which side the way goes on, and from which entry it is to hang.
@@ -139,6 +139,7 @@ fn walk_above(
     ensures linked { IfOk result (λ r. IsLinked r.at) }
     ensures short { IfErr result (IsWayShort name.now top cache.now draft.now (IsKnown draft.now cache.now id) (Name.Entry dir)) }
 {
+    let rank = priority(keys, id);
     let mut path = Vec::new(alloc);
     let mut last = dir;
     let mut at = top;
@@ -146,7 +147,7 @@ fn walk_above(
         let Some(link) = at else {
             return Ok(Above { path, last, at });
         };
-        if stands_above(keys, id, link.id) {
+        if stands_above(keys, rank, id, link.id) {
             return Ok(Above { path, last, at });
         }
         let crumb = crumb_at(alloc, draft, cache, link, name, last, last)?;
@@ -191,7 +192,7 @@ fn walk_below(
 }
 
 // Sets a crumb's entry over a link, below its parent, and links to it.
-fn settle(draft: &mut Draft, crumb: Crumb, link: Option<Link>) -> Result<Link, NoMemory>
+fn rehang(draft: &mut Draft, crumb: Crumb, link: Option<Link>) -> Result<Link, NoMemory>
     requires row { 2 ≤ crumb.node.id.0 }
     requires linked { IsLinked link }
     ensures link { IfOk result (λ l. LinksTo (turned crumb.right link crumb.node) crumb.hash l) }
@@ -199,9 +200,7 @@ fn settle(draft: &mut Draft, crumb: Crumb, link: Option<Link>) -> Result<Link, N
     ensures set { OnOk result (IsPut draft.old draft.new (Some (Name.Entry crumb.parent)) (turned crumb.right link crumb.node)) }
 {
     let node = turn(crumb.node, crumb.right, link);
-    let made = link_to(&node, crumb.hash);
-    draft.set(Some(Name::Entry { id: crumb.parent }), Node::Entry(node))?;
-    Ok(made)
+    hang(draft, crumb.parent, node, crumb.hash)
 }
 
 // Splits along a way, from its end up.
@@ -218,7 +217,7 @@ fn rise(draft: &mut Draft, path: Vec<Crumb>) -> Result<Halves, NoMemory>
     let mut high = None;
     while let Some(crumb) = path.pop() {
         let right = crumb.right;
-        let link = settle(draft, crumb, chosen_link(right, low, high))?;
+        let link = rehang(draft, crumb, chosen_link(right, low, high))?;
         low = chosen_link(right, Some(link), low);
         high = chosen_link(right, high, Some(link));
     }
@@ -241,9 +240,7 @@ fn seat(
     ensures set { OnOk result (IsPut draft.old draft.new (Some (Name.Entry parent)) (between halves.low halves.high node)) }
 {
     let node = between(halves.low, halves.high, node);
-    let made = link_to(&node, hash);
-    draft.set(Some(Name::Entry { id: parent }), Node::Entry(node))?;
-    Ok(made)
+    hang(draft, parent, node, hash)
 }
 
 // Links to what has grown from the entries above it, from the last one up.
@@ -258,7 +255,7 @@ fn climb(draft: &mut Draft, path: Vec<Crumb>, link: Link) -> Result<Link, NoMemo
     let mut path = path;
     let mut link = link;
     while let Some(crumb) = path.pop() {
-        link = settle(draft, crumb, Some(link))?;
+        link = rehang(draft, crumb, Some(link))?;
     }
     Ok(link)
 }

@@ -4,6 +4,7 @@ ghost use Rattle.std.specs.Prelude.{◌≡◌, ◌++◌, ◌∷◌, [], ℕ, Lis
 ghost use Rattle.std.specs.Option.{option_copied};
 ghost use Rattle.iris_name.specs.declared.name.Name.TheVariants as name;
 ghost use Rattle.iris_node.specs.Trees.{Shown};
+ghost use Rattle.iris_shape.specs.Order.{less_name};
 ghost use Rattle.iris_shape.specs.Treap.{Treap};
 ghost use Rattle.iris_cache.specs.Drafted.{seen};
 ghost use Rattle.iris_dirtree.specs.Rows.{Row, row_name};
@@ -37,6 +38,13 @@ fn put_last(waiting: &mut Vec<FileId>, id: FileId) -> Result<(), Short>
     }
 }
 
+// Whether an entry's name is greater than one.
+fn is_past(entry: &EntryNode, after: &Text) -> bool
+    ensures { result ≡ less_name after.now entry.now.name }
+{
+    stands_before(after, &entry.name)
+}
+
 // Goes down from a link to the first name after one, and puts each entry of a greater name that it passes last.
 fn pass(
     draft: &Draft,
@@ -56,7 +64,7 @@ fn pass(
         let Some(entry) = entry_seen(draft, cache, here.id, here.hash)? else {
             return Ok(());
         };
-        if stands_before(after, &entry.name) {
+        if is_past(entry, after) {
             put_last(waiting, here.id)?;
             at = entry.left;
         } else {

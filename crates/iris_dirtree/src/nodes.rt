@@ -10,7 +10,7 @@ ghost use Rattle.iris_shape.specs.Order.{less_name, outranks, beats};
 ghost use Rattle.iris_cache.specs.Drafted.{drafted, seen, set_to};
 ghost use Rattle.iris_cache.specs.Pictures.{parent_after};
 ghost use Rattle.iris_dirtree.specs.Needs.{IsDirectory};
-ghost use Rattle.iris_dirtree.specs.Nodes.{toward, turned, between, link_blocks, own_blocks, node_blocks, LinksTo, dir_top, IsLinkLack, IsTopLack, OnlyEntries};
+ghost use Rattle.iris_dirtree.specs.Nodes.{toward, turned, between, link_blocks, own_blocks, node_blocks, LinksTo, IsPut, dir_top, IsLinkLack, IsTopLack, OnlyEntries};
 ghost use Rattle.iris_dirtree.specs.Planted.{topped, with_top};
 
 use iris_cache::{Cache, Draft, Short};
@@ -46,11 +46,12 @@ fn outranks(p: u64, a: FileId, q: u64, b: FileId) -> bool
     q < p || (p == q && a.0 < b.0)
 }
 
-/// Whether the entry of the first id stands above that of the second.
-pub(crate) fn stands_above(keys: &Keys, a: FileId, b: FileId) -> bool
+/// Whether the entry of the first id, whose priority is known, stands above that of the second.
+pub(crate) fn stands_above(keys: &Keys, rank: u64, a: FileId, b: FileId) -> bool
+    requires { rank ≡ priority_of keys.now.order a.0 }
     ensures { result ≡ beats (priority_of keys.now.order) a.0 b.0 }
 {
-    outranks(priority(keys, a), a, priority(keys, b), b)
+    outranks(rank, a, priority(keys, b), b)
 }
 
 /// The link to the entries of greater names, or to those of lesser ones.
@@ -128,6 +129,21 @@ pub(crate) fn link_to(entry: &EntryNode, hash: Hash32) -> Link
         hash,
         blocks: node_blocks(entry),
     }
+}
+
+/// Sets an entry below another one, and links to it.
+pub(crate) fn hang(
+    draft: &mut Draft,
+    parent: FileId,
+    node: EntryNode,
+    hash: Hash32,
+) -> Result<Link, NoMemory>
+    ensures link { IfOk result (LinksTo node hash) }
+    ensures set { OnOk result (IsPut draft.old draft.new (Some (Name.Entry parent)) node) }
+{
+    let made = link_to(&node, hash);
+    draft.set(Some(Name::Entry { id: parent }), Node::Entry(node))?;
+    Ok(made)
 }
 
 /// A copy of an entry's name.

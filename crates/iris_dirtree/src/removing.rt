@@ -22,11 +22,10 @@ ghost use Rattle.iris_dirtree.specs.Ways.{Any, is_named, near_name};
 use crate::counting::recount;
 use crate::finding::longest_way;
 use crate::nodes::{
-    copy_entry, entry_at, is_named, link_to, set_top, side, stands_above, stands_before, top_of,
-    turn,
+    copy_entry, entry_at, hang, is_named, set_top, side, stands_above, stands_before, top_of, turn,
 };
 use iris_cache::{Cache, Draft, Short};
-use iris_mac::Keys;
+use iris_mac::{Keys, priority};
 use iris_name::{FileId, Hash32, Name, NoMemory, Text};
 use iris_node::{EntryNode, Link, Node};
 use std::alloc::Global;
@@ -140,7 +139,7 @@ fn join_sides(
         let Some(y) = more else {
             return Ok(Met { path, end: less });
         };
-        let right = stands_above(keys, x.id, y.id);
+        let right = stands_above(keys, priority(keys, x.id), x.id, y.id);
         let link = chosen(right, x, y);
         let node = entry_at(alloc, draft, cache, link)?;
         less = rest_less(right, &node, x);
@@ -185,7 +184,7 @@ fn move_rest(
 }
 
 // Sets a crumb's entry over a link, below another entry, and links to it.
-fn settle(
+fn rehang(
     draft: &mut Draft,
     parent: FileId,
     crumb: Crumb,
@@ -197,9 +196,7 @@ fn settle(
     ensures set { OnOk result (IsPut draft.old draft.new (Some (Name.Entry parent)) (turned crumb.right link crumb.node)) }
 {
     let node = turn(crumb.node, crumb.right, link);
-    let made = link_to(&node, crumb.hash);
-    draft.set(Some(Name::Entry { id: parent }), Node::Entry(node))?;
-    Ok(made)
+    hang(draft, parent, node, crumb.hash)
 }
 
 // Sets the entries of a way anew, from its end up, and links to the topmost.
@@ -222,7 +219,7 @@ fn climb(
     let mut link = end;
     while let Some(crumb) = path.pop() {
         let parent = above(path.as_slice(), dir);
-        link = Some(settle(draft, parent, crumb, link)?);
+        link = Some(rehang(draft, parent, crumb, link)?);
     }
     Ok(link)
 }

@@ -15,7 +15,7 @@ loop-crumb-preserved c =
     let link = c.loop-crumb.link in
     let inv = c.loop-crumb.invariant in
     let e1 = c.loop-crumb.draft in
-    let e2 = c.settle.new.draft in
+    let e2 = c.rehang.new.draft in
     let popped = c.in-Some.ensures.items in
     let rows = each_front (λ (k : Crumb). 2 ≤ k.node.id.0) js k (subst (λ v. Each (λ (k : Crumb). 2 ≤ k.node.id.0) v) popped inv.rows) in
     record {

@@ -13,7 +13,7 @@ use Rattle.iris_dirtree.specs.Found.{entry_in}
 use Rattle.iris_dirtree.specs.Piles.{Tables, Piling}
 use Rattle.iris_dirtree.proofs.Pilings.{piling_none, piling_long, piling_gone, piling_lacks, piling_left, piling_right, under_short}
 use Rattle.iris_dirtree.proofs.listing.pass.Goals as goal
-use Rattle.iris_dirtree.proofs.listing.pass.Goals.{In-Some, After-stands_before, then-stands_before+in_ok-put_last, else-stands_before}
+use Rattle.iris_dirtree.proofs.listing.pass.Goals.{In-Some, After-is_past, then-is_past+in_ok-put_last, else-is_past}
 
 -- a link leads on
 going : (c : In-Some) (old new : Shown) (all begin : Treap Row) (left : List Row) → Tables c.args.draft.now c.args.cache.now old new → Piling old new c.args.draft.now c.args.cache.now c.args.after.now all begin left c.args.waiting.now.items c.args.link 1
@@ -22,11 +22,11 @@ going c old new all begin left tab s =
     subst (λ at. Piling old new c.args.draft.now c.args.cache.now c.args.after.now all begin left c.loop-step.waiting.items at (suc c.loop-step._step)) c.in-Some.is (c.loop-step.invariant old new all begin left tab s)
 
 -- the entry there
-abbrev entry_of : After-stands_before → EntryFields
-entry_of c = record { id = c.entry.inside.id; name = c.entry.inside.name; left = c.entry.inside.left; right = c.entry.inside.right; body = c.entry.inside.body }
+abbrev entry_of : After-is_past → EntryFields
+entry_of c = c.in-Some-2.entry.now
 
-met : (c : After-stands_before) → Some (entry_of c) ≡ entry_in (seen c.args.draft.now c.args.cache.now (name.Entry c.in-Some.here.id))
-met c = ap Some c.entry.view_is ∙ ap option_copied (sym c.in-Some-2.is) ∙ c.in_ok-entry.ensures.entry
+met : (c : After-is_past) → Some (entry_of c) ≡ entry_in (seen c.args.draft.now c.args.cache.now (name.Entry c.in-Some.here.id))
+met c = ap option_copied (sym c.in-Some-2.is) ∙ c.in_ok-entry.ensures.entry
 
 pub returns-in_default-clause-passed : goal.returns-in_default-clause-passed
 returns-in_default-clause-passed c = λ old new all begin left tab s.
@@ -49,7 +49,7 @@ returns-in_default-2-clause-passed c = λ old new all begin left tab s.
 pub loop-step-preserved : goal.loop-step-preserved
 loop-step-preserved c = λ old new all begin left tab s.
     let g = going (goal.at.loop-step-preserved c).In-Some old new all begin left tab s in
-    let m = (goal.at.loop-step-preserved c).After-stands_before in
+    let m = (goal.at.loop-step-preserved c).After-is_past in
     let n = c.args.after.now in
     let d = c.args.draft.now in
     let w = c.args.cache.now in
@@ -57,15 +57,15 @@ loop-step-preserved c = λ old new all begin left tab s.
     let l = c.in-Some.here in
     let i = suc c.loop-step._step in
     let P : List FileId → Option Link → Type 0 = λ ids at. Piling old new d w n all begin left ids at (suc i) in
-    rw add-one (elim c.if-stands_before.branch [
-      | then-stands_before+in_ok-put_last b ↦
-          (let more : c.if-stands_before.waiting.items ≡ ids ++ l.id ∷ [] = ap (λ v. v.items) b.waiting-is ∙ b.in_ok-put_last.ensures.last in
-          subst (λ ids. P ids c.if-stands_before.at) (sym more) (subst (P (ids ++ l.id ∷ [])) (sym b.at-is)
-          (piling_left n d w old new all begin left tab ids l i g (entry_of m) (met m) (sym c.stands_before.ensures ∙ b.if-stands_before.true))))
-      | else-stands_before b ↦
-          (let same : c.if-stands_before.waiting.items ≡ ids = ap (λ v. v.items) b.waiting-is in
-          subst (λ ids. P ids c.if-stands_before.at) (sym same) (subst (P ids) (sym b.at-is)
-          (piling_right n d w old new all begin left tab ids l i g (entry_of m) (met m) (sym c.stands_before.ensures ∙ b.if-stands_before.false))))
+    rw add-one (elim c.if-is_past.branch [
+      | then-is_past+in_ok-put_last b ↦
+          (let more : c.if-is_past.waiting.items ≡ ids ++ l.id ∷ [] = ap (λ v. v.items) b.waiting-is ∙ b.in_ok-put_last.ensures.last in
+          subst (λ ids. P ids c.if-is_past.at) (sym more) (subst (P (ids ++ l.id ∷ [])) (ap (λ (e : EntryFields). e.left) (sym c.entry.view_is) ∙ sym b.at-is)
+          (piling_left n d w old new all begin left tab ids l i g (entry_of m) (met m) (sym c.is_past.ensures ∙ b.if-is_past.true))))
+      | else-is_past b ↦
+          (let same : c.if-is_past.waiting.items ≡ ids = ap (λ v. v.items) b.waiting-is in
+          subst (λ ids. P ids c.if-is_past.at) (sym same) (subst (P ids) (ap (λ (e : EntryFields). e.right) (sym c.entry.view_is) ∙ sym b.at-is)
+          (piling_right n d w old new all begin left tab ids l i g (entry_of m) (met m) (sym c.is_past.ensures ∙ b.if-is_past.false))))
     ])
 
 pub returns-clause-passed : goal.returns-clause-passed

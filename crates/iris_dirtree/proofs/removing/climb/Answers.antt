@@ -9,34 +9,34 @@ use Rattle.iris_dirtree.proofs.Steps.{named_last, turned_id}
 use Rattle.iris_dirtree.proofs.removing.climb.Goals as goal
 
 -- the entry that is set anew
-placed : (c : goal.In_ok-settle) → IsPut c.loop-crumb.draft c.settle.new.draft (Some (name.Entry (crumb_above c.args.dir c.pop.new.self.items))) (turned c.in-Some.crumb.right c.loop-crumb.link c.in-Some.crumb.node)
+placed : (c : goal.In_ok-rehang) → IsPut c.loop-crumb.draft c.rehang.new.draft (Some (name.Entry (crumb_above c.args.dir c.pop.new.self.items))) (turned c.in-Some.crumb.right c.loop-crumb.link c.in-Some.crumb.node)
 placed c =
     let e = turned c.in-Some.crumb.right c.loop-crumb.link c.in-Some.crumb.node in
-    let P : FileId → Type 0 = λ i. IsPut c.loop-crumb.draft c.settle.new.draft (Some (name.Entry i)) e in
-    subst P (c.above-parent.ensures ∙ ap (crumb_above c.args.dir) c.as_slice.ensures.value) c.in_ok-settle.ensures.set
+    let P : FileId → Type 0 = λ i. IsPut c.loop-crumb.draft c.rehang.new.draft (Some (name.Entry i)) e in
+    subst P (c.above-parent.ensures ∙ ap (crumb_above c.args.dir) c.as_slice.ensures.value) c.in_ok-rehang.ensures.set
 
-pub settle-requires-clause-row : goal.settle-requires-clause-row
-settle-requires-clause-row c = (named_last c.pop.new.self.items c.in-Some.crumb (subst AreNamed c.in-Some.ensures.items c.loop-crumb.invariant.named)).1
+pub rehang-requires-clause-row : goal.rehang-requires-clause-row
+rehang-requires-clause-row c = (named_last c.pop.new.self.items c.in-Some.crumb (subst AreNamed c.in-Some.ensures.items c.loop-crumb.invariant.named)).1
 
 pub loop-crumb-preserved : goal.loop-crumb-preserved
 loop-crumb-preserved c =
     let es = c.pop.new.self.items in
     let crumb = c.in-Some.crumb in
     let link = c.loop-crumb.link in
-    let k = c.in_ok-settle.field-0 in
+    let k = c.in_ok-rehang.field-0 in
     let e = turned crumb.right link crumb.node in
     let p = Some (name.Entry (crumb_above c.args.dir es)) in
     let set = placed c in
     let named = named_last es crumb (subst AreNamed c.in-Some.ensures.items c.loop-crumb.invariant.named) in
-    let id : k.id ≡ crumb.node.id = c.in_ok-settle.ensures.link.id ∙ turned_id crumb.right link crumb.node in
+    let id : k.id ≡ crumb.node.id = c.in_ok-rehang.ensures.link.id ∙ turned_id crumb.right link crumb.node in
     let N : FileId → Type 0 = λ i. 2 ≤ i.0 in
     record {
       named = named.0;
       linked = subst N (sym id) named.1;
       risen = λ old t u d once few there start.
           let S : List Crumb → Type 0 = λ es. Rising old c.args.cache.now t d c.loop-crumb.draft (name.Entry c.args.dir) u es link in
-          rising_more old c.args.cache.now t d c.loop-crumb.draft c.settle.new.draft c.args.dir u es crumb link k once few there c.in_ok-settle.ensures.link set
+          rising_more old c.args.cache.now t d c.loop-crumb.draft c.rehang.new.draft c.args.dir u es crumb link k once few there c.in_ok-rehang.ensures.link set
           (subst S c.in-Some.ensures.items (c.loop-crumb.invariant.risen old t u d once few there start));
-      stays = λ n h. put_stays c.loop-crumb.draft c.settle.new.draft c.args.cache.now p e n set (c.loop-crumb.invariant.stays n h);
-      others = put_others c.args.draft.now c.loop-crumb.draft c.settle.new.draft p e set c.loop-crumb.invariant.others;
+      stays = λ n h. put_stays c.loop-crumb.draft c.rehang.new.draft c.args.cache.now p e n set (c.loop-crumb.invariant.stays n h);
+      others = put_others c.args.draft.now c.loop-crumb.draft c.rehang.new.draft p e set c.loop-crumb.invariant.others;
     }
