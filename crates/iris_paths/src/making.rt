@@ -1,9 +1,8 @@
 //! New files and directories.
 
-ghost use Rattle.std.specs.Prelude.{◌≡◌, ◌<◌, ℕ, List, Option, Some, None, IfOk, IfErr, IsSome, IsTrue, length, false};
-ghost use Rattle.std.specs.List.{list_all};
+ghost use Rattle.std.specs.Prelude.{◌≡◌, ◌<◌, ℕ, List, Option, Some, None, IfOk, IfErr, IsSome, length, false};
 ghost use Rattle.iris_name.specs.declared.name.FileId.{FileId as SpecId};
-ghost use Rattle.iris_node.specs.Rules.{IsBody, IsFileName, in_name};
+ghost use Rattle.iris_node.specs.Rules.{IsBody};
 ghost use Rattle.iris_node.specs.Trees.{Shown, IsTree};
 ghost use Rattle.iris_shape.specs.Treap.{put};
 ghost use Rattle.iris_cache.specs.Pictures.{Drafts};
@@ -22,28 +21,8 @@ use iris_cache::{Cache, Draft, Short};
 use iris_dirtree::plan_insert;
 use iris_mac::Keys;
 use iris_name::{FileId, NoMemory, Path, PlainError, Text};
-use iris_node::{Body, EntryNode, Side};
+use iris_node::{Body, EntryNode, Side, is_file_name};
 use std::alloc::Global;
-
-// Whether there is neither a slash nor a zero.
-fn is_one_step(name: &[u8]) -> bool
-    ensures { result ≡ list_all in_name name.now }
-{
-    name.iter().all(|b| *b != b'/' && *b != 0)
-}
-
-// Whether a file or a directory may have this name.
-fn is_label(name: &str) -> bool
-    ensures { IsTrue result → IsFileName name.now }
-{
-    if name.is_empty() || name.len() > 255 {
-        return false;
-    }
-    if name == "." || name == ".." {
-        return false;
-    }
-    is_one_step(name.as_bytes())
-}
 
 /// An entry with nothing beside it. Paths that clients name have no other names than entries have; of any other there is none.
 pub(crate) fn lone_entry(
@@ -56,7 +35,7 @@ pub(crate) fn lone_entry(
     ensures { IfOk result (λ e. e ≡ record { id = id; name = name.now; left = None; right = None; body = body }) }
 {
     let name = name.copy(alloc)?;
-    if id.0 < 2 || !is_label(name.as_str()) {
+    if id.0 < 2 || !is_file_name(name.as_str()) {
         return Err(NoMemory);
     }
     Ok(EntryNode {

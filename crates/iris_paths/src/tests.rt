@@ -3,7 +3,7 @@
 use crate::{plan_list, plan_make, plan_rename, plan_stat};
 use iris_cache::{Cache, Draft};
 use iris_mac::Keys;
-use iris_name::{FileId, Name, Path, PlainError, Reply, Text};
+use iris_name::{FileId, Name, Path, PlainError, Reply, Text, Texts};
 use iris_node::{Body, EntryNode, Node};
 use std::alloc::Global;
 use std::test::Fail;
@@ -41,6 +41,25 @@ fn fresh(alloc: Global) -> Result<Cache, Fail> {
     Ok(cache)
 }
 
+fn some_keys() -> Keys {
+    Keys::of(&[7; 32])
+}
+
+fn make_under(
+    alloc: Global,
+    cache: &mut Cache,
+    keys: &Keys,
+    words: &str,
+    id: u64,
+    dir: bool,
+) -> Result<Option<PlainError>, Fail> {
+    let mut draft = Draft::new(alloc);
+    let path = path(alloc, words)?;
+    let answer = plan_make(alloc, &mut draft, cache, keys, &path, FileId(id), dir)?;
+    land(cache, draft)?;
+    Ok(answer)
+}
+
 fn make(
     alloc: Global,
     cache: &mut Cache,
@@ -48,12 +67,7 @@ fn make(
     id: u64,
     dir: bool,
 ) -> Result<Option<PlainError>, Fail> {
-    let keys = Keys::of(&[7; 32]);
-    let mut draft = Draft::new(alloc);
-    let path = path(alloc, words)?;
-    let answer = plan_make(alloc, &mut draft, cache, &keys, &path, FileId(id), dir)?;
-    land(cache, draft)?;
-    Ok(answer)
+    make_under(alloc, cache, &some_keys(), words, id, dir)
 }
 
 fn rename(
@@ -62,24 +76,20 @@ fn rename(
     from: &str,
     to: &str,
 ) -> Result<Option<PlainError>, Fail> {
-    let keys = Keys::of(&[7; 32]);
     let mut draft = Draft::new(alloc);
     let from = path(alloc, from)?;
     let to = path(alloc, to)?;
-    let answer = plan_rename(alloc, &mut draft, cache, &keys, &from, &to)?;
+    let answer = plan_rename(alloc, &mut draft, cache, &some_keys(), &from, &to)?;
     land(cache, draft)?;
     Ok(answer)
 }
 
-// How many names a page has, or none where it is an error.
-fn page(alloc: Global, cache: &Cache, words: &str, after: &str) -> Result<Option<usize>, Fail> {
+// The page of a directory after a name.
+fn listed(alloc: Global, cache: &Cache, words: &str, after: &str) -> Result<Reply, Fail> {
     let draft = Draft::new(alloc);
     let path = path(alloc, words)?;
     let after = text(alloc, after)?;
-    match plan_list(alloc, &draft, cache, &path, &after)? {
-        Reply::Names(names) => Ok(Some(names.as_slice().len())),
-        _ => Ok(None),
-    }
+    Ok(plan_list(alloc, &draft, cache, &path, &after)?)
 }
 
 // One request of a test: a path to make, or to move where a second one is named; a new id; and the answer.
@@ -175,13 +185,13 @@ fn moves(alloc: Global) -> Result<bool, Fail> {
     let done = run(alloc, &mut cache, &steps)?;
     let gone = told(alloc, &cache, "/a/f")?;
     let there = told(alloc, &cache, "/b/g")?;
-    let names = page(alloc, &cache, "/b/g", "")?;
+    let names = listed(alloc, &cache, "/b/g", "")?;
     let file = Reply::Stat {
         dir: false,
         length: 0,
     };
     let moved = gone == Reply::Plain(PlainError::NotFound) && there == file;
-    Ok(done.is_none() && moved && names.is_none())
+    Ok(done.is_none() && moved && names == Reply::Plain(PlainError::NotDir))
 }
 
 // A row that is lost on its way into another directory.
@@ -191,27 +201,87 @@ fn moves_a_row(rt: HostRuntime) -> Result<(), Fail> {
     Ok(())
 }
 
-// Makes the files f00 to f64.
+// The name of a file, from f00 to f99.
+fn numbered(alloc: Global, i: u64) -> Result<String, Fail> {
+    Ok(format!(in alloc; "f{}{}", i / 10 % 10, i % 10)?)
+}
+
+// The reply that lists some of these.
+fn names_of(alloc: Global, low: u64, high: u64) -> Result<Reply, Fail> {
+    let mut names = Texts::new(alloc);
+    for i in low..high {
+        names.push(Text::of(numbered(alloc, i)?))?;
+    }
+    Ok(Reply::Names(names))
+}
+
+// Makes the files f00 to f64, the last first.
 fn many(alloc: Global, cache: &mut Cache) -> Result<(), Fail> {
     for i in 0..65u64 {
-        let name = format!(in alloc; "/f{}{}", i / 10, i % 10)?;
+        let name = format!(in alloc; "/{}", numbered(alloc, 64 - i)?)?;
         make(alloc, cache, name.as_str(), i + 2, false)?;
     }
     Ok(())
 }
 
-// How many names the first page of these has, and the one behind f63.
-fn pages(alloc: Global) -> Result<(Option<usize>, Option<usize>), Fail> {
+// Whether the first page has 64 of these, and the one behind f63 the last.
+fn has_pages(alloc: Global) -> Result<bool, Fail> {
     let mut cache = fresh(alloc)?;
     many(alloc, &mut cache)?;
-    let first = page(alloc, &cache, "/", "")?;
-    let last = page(alloc, &cache, "/", "f63")?;
-    Ok((first, last))
+    let first = listed(alloc, &cache, "/", "")?;
+    let last = listed(alloc, &cache, "/", "f63")?;
+    Ok(first == names_of(alloc, 0, 64)? && last == names_of(alloc, 64, 65)?)
 }
 
-// A page of one name more or less.
+// A page of one name more or less, or in another order.
 #[test]
 fn lists_in_pages(rt: HostRuntime) -> Result<(), Fail> {
-    assert_eq!(rt; pages(rt.alloc())?, (Some(64), Some(1)));
+    assert!(rt; has_pages(rt.alloc())?);
+    Ok(())
+}
+
+// Makes so many files in the root, with ids from one on.
+fn crowd(
+    alloc: Global,
+    cache: &mut Cache,
+    keys: &Keys,
+    first: u64,
+    count: u64,
+) -> Result<(), Fail> {
+    for i in 0..count {
+        let id = first.saturating_add(i);
+        let name = format!(in alloc; "/f{id}")?;
+        make_under(alloc, cache, keys, name.as_str(), id, false)?;
+    }
+    Ok(())
+}
+
+// Makes 20 files more where there are about a hundred.
+#[inline(never)]
+fn insert_into_hundred(alloc: Global, cache: &mut Cache, keys: &Keys) -> Result<(), Fail> {
+    crowd(alloc, cache, keys, 92, 20)
+}
+
+// Makes 20 files more where there are about ten thousand.
+#[inline(never)]
+fn insert_into_ten_thousand(alloc: Global, cache: &mut Cache, keys: &Keys) -> Result<(), Fail> {
+    crowd(alloc, cache, keys, 9_992, 20)
+}
+
+// How many are resident once a root has 10,010 files.
+fn crowded(alloc: Global) -> Result<u32, Fail> {
+    let keys = some_keys();
+    let mut cache = fresh(alloc)?;
+    crowd(alloc, &mut cache, &keys, 2, 90)?;
+    insert_into_hundred(alloc, &mut cache, &keys)?;
+    crowd(alloc, &mut cache, &keys, 112, 9_880)?;
+    insert_into_ten_thousand(alloc, &mut cache, &keys)?;
+    Ok(cache.count())
+}
+
+// An entry that is lost, or two of one name, in a large directory.
+#[test]
+fn holds_a_crowd(rt: HostRuntime) -> Result<(), Fail> {
+    assert_eq!(rt; crowded(rt.alloc())?, 10_011);
     Ok(())
 }
