@@ -2,37 +2,19 @@
 
 ghost use Rattle.std.specs.Prelude.{◌≤◌, ◌<◌};
 
-use crate::filling::{ENTRY, FILE, cache_of, record_of, set};
-use crate::settling::{let_go, parts_at, settle_parts};
+use crate::dice::Dice;
+use crate::filling::{ENTRY, FILE, cache_of, is_recorded, record_of, set};
+use crate::keeping::{let_go, parts_at, settle_parts};
 use iris_cache::Cache;
 use iris_mac::Keys;
 use iris_name::{Bytes, Name, Reply, Request, Text};
-use iris_node::{Body, Node, Side, decode, encode};
+use iris_node::{Body, Node, Side, decode};
 use iris_table::Table;
 use std::alloc::Global;
 use std::test::Fail;
 
 // How many places the file has.
 const LENGTH: u32 = 6000;
-
-// Choices from a fixed seed.
-#[derive(Drop)]
-struct Dice {
-    state: u64,
-}
-
-impl Dice {
-    fn roll(&mut self, below: u32) -> u32
-        requires { 1 ≤ below }
-        ensures { result < below }
-    {
-        self.state = self
-            .state
-            .wrapping_mul(6_364_136_223_846_793_005)
-            .wrapping_add(1_442_695_040_888_963_407);
-        (self.state >> 33) as u32 % below
-    }
-}
 
 fn path(alloc: Global) -> Result<Text, Fail> {
     Ok(Text::of("/a".to_string(alloc)?))
@@ -94,12 +76,8 @@ fn side_in(cache: &Cache) -> Option<Side> {
 fn agrees(alloc: Global, cache: &Cache, records: &[(Name, Bytes)]) -> Result<bool, Fail> {
     for i in 0..cache.count() {
         let (name, held) = cache.at(i);
-        if *name != ENTRY {
-            let own = encode(alloc, &held.node)?;
-            match record_of(records, name) {
-                Some(record) if record == own.as_slice() => {}
-                _ => return Ok(false),
-            }
+        if *name != ENTRY && !is_recorded(alloc, records, name, &held.node)? {
+            return Ok(false);
         }
     }
     let (_, side) = file_in(alloc, records)?;
@@ -163,7 +141,7 @@ fn plans_as_the_table_writes(rt: HostRuntime) -> Result<(), Fail> {
     resize(alloc, &mut table, LENGTH)?;
     let mut records = table.records_of(alloc, &keys)?;
     let mut cache = cache_of(alloc, records.as_slice())?;
-    let mut dice = Dice { state: 1 };
+    let mut dice = Dice::of(1);
     let mut gone = 0u64;
     for round in 0..60u32 {
         records = change(alloc, &mut table, &mut cache, &mut dice, records.as_slice())?;

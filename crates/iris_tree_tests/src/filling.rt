@@ -5,7 +5,7 @@ ghost use Rattle.iris_version_tree.specs.Versions.{places};
 
 use iris_cache::{Cache, Draft, Short};
 use iris_name::{Bytes, Expect, FileId, Hash32, Name};
-use iris_node::{decode, hash_of};
+use iris_node::{Node, decode, encode, hash_of};
 use iris_version_tree::{is_file, plan_set};
 use std::alloc::Global;
 use std::test::Fail;
@@ -24,6 +24,20 @@ pub(crate) fn record_of<'a>(records: &'a [(Name, Bytes)], name: &Name) -> Option
     None
 }
 
+// Whether a node's record stands among these.
+pub(crate) fn is_recorded(
+    alloc: Global,
+    records: &[(Name, Bytes)],
+    name: &Name,
+    node: &Node,
+) -> Result<bool, Fail> {
+    let own = encode(alloc, node)?;
+    match record_of(records, name) {
+        Some(record) => Ok(record == own.as_slice()),
+        None => Ok(false),
+    }
+}
+
 // The part or the entry directly over a part.
 fn over(name: &Name) -> Option<Name> {
     match *name {
@@ -38,7 +52,7 @@ fn over(name: &Name) -> Option<Name> {
 }
 
 // Takes in the node of a record.
-fn take_in(
+pub(crate) fn take_in(
     alloc: Global,
     cache: &mut Cache,
     parent: Option<Name>,
