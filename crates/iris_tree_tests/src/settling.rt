@@ -1,9 +1,7 @@
 //! A node is settled once its resident children are.
 
-ghost use Rattle.std.specs.Prelude.{◌≡◌, IsTrue, true, false, Some, IfOk};
-ghost use Rattle.iris_name.specs.declared.name.Name.{Name as SpecName};
-ghost use Rattle.iris_cache.specs.declared.held.Held.{Held as HeldRecord};
-ghost use Rattle.iris_cache.specs.Resident.{held};
+ghost use Rattle.std.specs.Prelude.{◌≡◌, ◌↔◌, IsTrue, true, false, Some, IfOk};
+ghost use Rattle.iris_tree_tests.specs.Settled.{HasSettledChildren, IsReady, Settles};
 
 use iris_cache::{Cache, Held};
 use iris_name::{Name, NoMemory};
@@ -12,7 +10,8 @@ use std::alloc::Global;
 
 // Whether a node is a child of a name, and isn't settled.
 fn is_loose_child(held: &Held, name: &Name) -> bool
-    ensures { result ≡ false → held.now.parent ≡ Some name.now → held.now.settled ≡ true }
+    ensures fine { result ≡ false → held.now.parent ≡ Some name.now → held.now.settled ≡ true }
+    ensures loose { IsTrue result → (held.now.parent ≡ Some name.now) × (held.now.settled ≡ false) }
 {
     match held.parent {
         Some(parent) => parent == *name && !held.settled,
@@ -22,8 +21,9 @@ fn is_loose_child(held: &Held, name: &Name) -> bool
 
 /// Whether all resident children of a name are settled. It goes over all that is resident.
 pub fn has_settled_children(cache: &Cache, name: &Name) -> bool
-    ensures { IsTrue result → (q : SpecName) (h : HeldRecord) → held cache.now q ≡ Some h → h.parent ≡ Some name.now → h.settled ≡ true }
+    ensures { IsTrue result ↔ HasSettledChildren cache.now name.now }
 {
+    cache.sound();
     for i in 0..cache.count() {
         let (_, held) = cache.at(i);
         if is_loose_child(held, name) {
@@ -35,7 +35,8 @@ pub fn has_settled_children(cache: &Cache, name: &Name) -> bool
 
 /// Settles a node by the hash of its record, if it isn't settled and all its resident children are. Tells whether it did.
 pub fn settle(alloc: Global, cache: &mut Cache, name: &Name) -> Result<bool, NoMemory>
-    ensures children { IfOk result (λ done. IsTrue done → (q : SpecName) (h : HeldRecord) → held cache.old q ≡ Some h → h.parent ≡ Some name.now → h.settled ≡ true) }
+    ensures done { IfOk result (λ done. IsTrue done ↔ IsReady cache.old name.now) }
+    ensures settled { IfOk result (λ done. IsTrue done → Settles cache.old cache.new name.now) }
     ensures unchanged { IfOk result (λ done. done ≡ false → cache.new ≡ cache.old) }
 {
     let hash = match cache.find(name) {
