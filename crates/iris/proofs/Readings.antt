@@ -81,7 +81,7 @@ got_front key counter notes versions kept who since p bytes past a s c pass =
     let here : begun past (noted (Got who since (block_name p) (Given bytes))) ≡ past = begun_here past (noted (Got who since (block_name p) (Given bytes))) (omega (arith, s)) in
     elim a.judged [
       | inl bad ↦ inl (inr bad)
-      | inr legal ↦ elim (got_passing (registers key) (register_rules key) (record { 0 = 2 }) p (t.version p, t.block p) who since bytes past (noted (Got who since (block_name p) (Given bytes))) refl legal
+      | inr legal ↦ elim (got_passing (registers key) (register_rules key) (record { 0 = 2 }) p (t.version p, t.block p) who since bytes past (noted (Got who since (block_name p) (Given bytes))) refl (got_lawful key who since p (Given bytes) past s c, legal)
           (ap (λ q. shown (table key q) (block_name p)) here ∙ live_shown t p live) (λ m e. then_same m live e) pass) [
             | inl bad ↦ inl bad
             | inr same ↦ inr ((got_lawful key who since p (Given bytes) past s c, legal), same ∙ take_at (t.block p) (tag key 2 p (t.version p) (t.block p)) 4096 (a.whole 0 p))

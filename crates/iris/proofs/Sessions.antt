@@ -53,7 +53,7 @@ wrote_told key counter notes versions kept (Some ns) mid new p b bytes request s
     let agrees = wrote key counter notes versions kept (past_of (ns ∷ [])) 1 (codes "/f") (p * 4096) b since ok k.0 (subst (λ z. z < length versions) (sym place) v) (subst (λ z. z < length kept) (sym place) w) len s (path_is_text, values) in
     let here : Agrees key (counter + 1) (notes + 2) (set versions p (counter + 1)) (set kept p (cond ok None (Some b))) (noted (Put 1 since (block_name p) (record_of key 2 p (counter + 1) b) ok) ∷ noted (Call 1 (Write (codes "/f") (p * 4096) b) Done) ∷ past_of (ns ∷ []))
     = subst (λ z. Agrees key (counter + 1) (notes + 2) (set versions z (counter + 1)) (set kept z (cond ok None (Some b))) (noted (Put 1 since (block_name z) (record_of key 2 z (counter + 1) b) ok) ∷ noted (Call 1 (Write (codes "/f") (p * 4096) b) Done) ∷ past_of (ns ∷ []))) place agrees in
-    let shaped = Wrote (past_of (ns ∷ [])) 0 0 1 since (p * 4096) (codes "/f") b bytes Done ok k.1 in
+    let shaped = Wrote (past_of (ns ∷ [])) 0 0 1 since (p * 4096) (codes "/f") b bytes Done ok (omega (arith, s, k.0.notes)) k.1 in
     let shaped' : IsShaped key (noted (Put 1 since (block_name p) bytes ok) ∷ noted (Call 1 request Done) ∷ past_of (ns ∷ []))
     = subst (λ q. IsShaped key (noted (Put 1 since (block_name p) bytes ok) ∷ noted (Call 1 q Done) ∷ past_of (ns ∷ []))) (sym r) (subst (λ z. IsShaped key (noted (Put 1 since (block_name z) bytes ok) ∷ noted (Call 1 (Write (codes "/f") (p * 4096) b) Done) ∷ past_of (ns ∷ []))) place shaped) in
     subst (Keeps key (counter + 1) (notes + 2) (set versions p (counter + 1)) (set kept p held)) (sym after)
@@ -110,7 +110,8 @@ read_got_told key counter notes versions kept (Some ns) mid new p request since 
     let here : Agrees key counter (notes + 2) versions kept (noted (Call 1 (Read (codes "/f") (p * 4096) 4096) reply) ∷ noted (Got 1 since (block_name p) answer) ∷ past_of (ns ∷ []))
     = subst (λ q. Agrees key counter (notes + 2) versions kept (noted (Call 1 (Read (codes "/f") (p * 4096) 4096) reply) ∷ noted (Got 1 since (block_name q) answer) ∷ past_of (ns ∷ []))) (sym place) agrees in
     let clean = k.0.clean (place_of (p * 4096)) (subst (λ q. q < 65536) place lt) (λ z. live (subst (λ q. get_or versions q 0 ≡ 0) (sym place) (k.0.version (place_of (p * 4096)) (subst (λ q. q < 65536) place lt) ∙ z))) (subst (λ q. get_or kept q None ≡ None) place none) in
-    let shaped = Fetched (past_of (ns ∷ [])) 0 0 1 since (p * 4096) 4096 (codes "/f") reply answer clean k.1 in
+    let fits = subst (λ v. Fits key (place_of (p * 4096)) v answer reply) (k.0.version (place_of (p * 4096)) (subst (λ q. q < 65536) place lt)) (subst (λ q. Fits key q (get_or versions q 0) answer reply) place f) in
+    let shaped = Fetched (past_of (ns ∷ [])) 0 0 1 since (p * 4096) 4096 (codes "/f") reply answer (omega (arith, s, k.0.notes)) fits clean k.1 in
     let shaped' : IsShaped key (noted (Call 1 request reply) ∷ noted (Got 1 since (block_name p) answer) ∷ past_of (ns ∷ []))
     = subst (λ q. IsShaped key (noted (Call 1 q reply) ∷ noted (Got 1 since (block_name p) answer) ∷ past_of (ns ∷ []))) (sym r) (subst (λ z. IsShaped key (noted (Call 1 (Read (codes "/f") (p * 4096) 4096) reply) ∷ noted (Got 1 since (block_name z) answer) ∷ past_of (ns ∷ []))) (sym place) shaped) in
     subst (Keeps key counter (notes + 2) versions kept) (sym after)

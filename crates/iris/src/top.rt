@@ -2,7 +2,7 @@
 
 ghost use Rattle.std.specs.Prelude.{◌≡◌, ◌≢◌, ◌⊎◌, ◌↔◌, ◌≤◌, ℕ, List, map, take, IfSome, IsTrue};
 ghost use Rattle.iris_name.specs.Told.{extended};
-ghost use Rattle.iris.specs.Notes.{AllBy, requests_of, replies_of, transfers_of, any_refused, printed};
+ghost use Rattle.iris.specs.Notes.{AllBy, AnyGetFailed, requests_of, replies_of, transfers_of, any_refused, printed};
 ghost use Rattle.iris.specs.Outside.{IsFault};
 ghost use Rattle.iris.specs.Run.{IsEnd, status_of, line_of};
 ghost use Rattle.iris.specs.Top.{IsFresh, IsPrinted, IsServed, IsUnbegun, IsSilent, WasRead, WentOn, AreFirst, IsBadOrLegal, HasItsTransfers, HasNoKey, HasBadLine, IsTooLong, IsInForm, IsDoneIfHonest};
@@ -158,6 +158,7 @@ pub fn registers<R: Source, W: Sink, S: Store, G: Log>(
     ensures other_lines { result.status ≢ 2 → result.line ≡ 0 }
     ensures unread { result.status ≡ 3 → IsFault (R.faults script.old) (R.faults script.new) }
     ensures unwritten { result.status ≡ 4 → IsFault (W.faults out.old) (W.faults out.new) }
+    ensures failed { IsServed result.status → IfSome (G.notes result.log) (λ notes. AnyGetFailed notes → IsFault (S.faults link) (S.faults result.link)) }
     ensures too_long { IfSome (R.left script.old) (λ bytes. WentOn result.status → (result.status ≡ 7) ↔ IsTooLong (map (λ w. w.now) words.now) bytes) }
     ensures statuses { (result.status ≤ 4) ⊎ (result.status ≡ 7) ⊎ (result.status ≡ 8) }
     ensures honest { (master : List ℕ) → AreWords (map (λ w. w.now) words.now) master → IsInForm (R.left script.old) → ¬ IsFault (R.faults script.old) (R.faults script.new) → ¬ IsFault (W.faults out.old) (W.faults out.new) → ¬ IsFault (S.faults link) (S.faults result.link) → IfSome (G.notes result.log) (IsDoneIfHonest master result.status) }

@@ -113,7 +113,7 @@ fn recount_one(
 
 /// Sets the counts right in the links on the way up from a child whose count may have changed. It goes up over nodes that are in
 /// draft or cache, and no further than to a link whose count is right.
-pub(crate) fn recount(
+pub fn recount(
     alloc: Global,
     draft: &mut Draft,
     cache: &Cache,

@@ -1,7 +1,7 @@
 //! The treap of a directory, changed in place over cache and draft.
 #![tactic(auto)]
 
-pub(crate) mod counting;
+pub mod counting;
 pub mod finding;
 mod hashes;
 mod inserting;
@@ -12,6 +12,7 @@ mod nodes;
 pub mod placing;
 mod removing;
 
+pub use counting::recount;
 pub use finding::plan_find;
 pub use inserting::plan_insert;
 pub use kinds::is_directory;

@@ -57,7 +57,7 @@ legal_before k r (suc m) (x ∷ past) h = legal_before k r m past h.1
 
 -- a bad history is bad by a note that stands on a legal one
 pub bad_at : (k : Kept) (r : Rules) (past : Past) → IsBad k r past
-    → (m : ℕ) × (x : Stamped) × (before : Past) × (drop m past ≡ x ∷ before) × Breaks k before (begun before x) x.note × IsLegal k r before
+    → (m : ℕ) × (x : Stamped) × (before : Past) × (drop m past ≡ x ∷ before) × Breaks k before (begun before x) x.note × IsLegal k r (x ∷ before)
 bad_at k r [] h = absurd h
 bad_at k r (x ∷ past) (inl h) = (0, x, past, refl, h.0, h.1)
 bad_at k r (x ∷ past) (inr h) = let f = bad_at k r past h in (suc f.0, f.1, f.2, f.3, f.4, f.5)

@@ -74,14 +74,14 @@ never_put k r n v u other (x ∷ past) legal same ne (inr was) =
 -- What a get gives and passes for the version as it was when it began is what the name stood for then, or it is forged.
 pub got_passing : (k : Kept) (r : Rules) (f : FileId) (p : ℕ) (u : k.Unfolded) (who since : ℕ) (bytes : List ℕ) (past : Past) (x : Stamped)
     → x.note ≡ Got who since (Block f p) (Given bytes)
-    → IsLegal k r past
+    → IsLegal k r (x ∷ past)
     → shown_in k (begun past x) (Block f p) ≡ Some u
     → ((m : ℕ) → version_of k (shown_in k (drop m past) (Block f p)) ≡ k.version u → shown_in k (drop m past) (Block f p) ≡ Some u)
     → Passes k.key f.0 p (k.version u) bytes
     → IsBad k r (x ∷ past) ⊎ (take 4096 bytes ≡ take 4096 (k.spelled (Block f p) u))
 got_passing k r f p u who since bytes past x e legal now same pass = elim (same_list (take 4096 bytes) (take 4096 (k.spelled (Block f p) u))) [
   | inl h ↦ inr h
-  | inr ne ↦ inl (inl (subst (λ note. Breaks k past (begun past x) note) (sym e) (inl (subst (λ o. Passes k.key f.0 p (version_of k o) bytes × (WasPut k (Block f p) (version_of k o) (take 4096 bytes) past → ⊥)) (sym now) (pass, never_put k r (Block f p) (k.version u) u (take 4096 bytes) past legal same (λ z. ne (sym z))))), legal))
+  | inr ne ↦ inl (inl (subst (λ note. Breaks k past (begun past x) note) (sym e) (inl (subst (λ o. Passes k.key f.0 p (version_of k o) bytes × (WasPut k (Block f p) (version_of k o) (take 4096 bytes) past → ⊥)) (sym now) (pass, never_put k r (Block f p) (k.version u) u (take 4096 bytes) past legal.1 same (λ z. ne (sym z))))), legal))
 ]
 
 -- a clean name was put last, and that put carries its record as it is now

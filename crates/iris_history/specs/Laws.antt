@@ -24,7 +24,7 @@ LegalBefore k r = (past : Past) (m : ℕ) → IsLegal k r past → IsLegal k r (
 -- a bad history has a note that breaks, with a legal history before it
 abbrev pub BadOnLegal : Kept → Rules → Type 0
 BadOnLegal k r = (past : Past) → IsBad k r past
-    → (m : ℕ) × (x : Stamped) × (before : Past) × (drop m past ≡ x ∷ before) × Breaks k before (begun before x) x.note × IsLegal k r before
+    → (m : ℕ) × (x : Stamped) × (before : Past) × (drop m past ≡ x ∷ before) × Breaks k before (begun before x) x.note × IsLegal k r (x ∷ before)
 
 -- a call that is refused, or answered by a plain error, leaves the table
 abbrev pub RefusedLeaves : Kept → Type 0

@@ -82,4 +82,4 @@ IsLegal k r (x ∷ past) = IsLawful k r x.opened past (begun past x) x.note × I
 -- there is a forgery or a collision on a legal past
 abbrev pub IsBad : (k : Kept) → Rules → Past → Type 0
 IsBad k r [] = ⊥
-IsBad k r (x ∷ past) = (Breaks k past (begun past x) x.note × IsLegal k r past) ⊎ IsBad k r past
+IsBad k r (x ∷ past) = (Breaks k past (begun past x) x.note × IsLegal k r (x ∷ past)) ⊎ IsBad k r past

@@ -4,7 +4,7 @@
 pub mod mem;
 pub mod null;
 
-ghost use Rattle.std.specs.Prelude.{◌≡◌, ◌+◌, ◌<◌, ◌≤◌, ℕ, List, Option, OnOk};
+ghost use Rattle.std.specs.Prelude.{◌≡◌, ◌+◌, ◌<◌, ◌≤◌, ℕ, List, Option, OnOk, OnErr};
 ghost use Rattle.iris_name.specs.declared.note.Note.{Note as SpecNote};
 ghost use Rattle.iris_name.specs.Told.{appended};
 ghost use Rattle.iris_log.specs.Told.{HasCount, IsBounded};
@@ -27,6 +27,8 @@ pub trait Log {
     /// Makes room for at least n notes, and changes nothing else.
     fn ready(&mut self, n: u32) -> Result<(), NoMemory>
         ensures room { OnOk result (n ≤ spare self.new) }
+        ensures kept { spare self.old ≤ spare self.new }
+        ensures err { OnErr result (spare self.new ≡ spare self.old) }
         ensures count { count self.new ≡ count self.old }
         ensures notes { notes self.new ≡ notes self.old }
         ensures bound { OnOk result (IsBounded (notes self.new) (count self.new + spare self.new)) };

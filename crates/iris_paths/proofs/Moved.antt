@@ -1,5 +1,5 @@
 -- A row moved under a new name.
-use Rattle.std.proofs.Common.{◌≡◌, ◌<◌, ◌++◌, ◌∙◌, ℕ, List, [], length, Bool, true, false, Option, Some, None, IsSome, refl, sym, ap, subst, inl, inr}
+use Rattle.std.proofs.Common.{◌≡◌, ◌<◌, ◌++◌, ◌∙◌, ℕ, List, [], ◌∷◌, length, Bool, true, false, Option, Some, None, IsSome, refl, sym, ap, subst, inl, inr, arith}
 use Rattle.std.proofs.lemmas.List.{append-nil}
 use Rattle.std.proofs.lemmas.Bool.{eqb-true}
 use Rattle.std.proofs.Common.{eq-eqb, ◌==◌}
@@ -25,7 +25,7 @@ use Rattle.iris_cache.specs.Drafted.{Drafted, drafted, seen, IsDraft}
 use Rattle.iris_cache.specs.Pictures.{Drafts}
 use Rattle.iris_plain.specs.declared.checks.Seen.{Seen}
 use Rattle.iris_plain.specs.declared.checks.Seen.TheVariants.{ADirectory, AFile, Nothing, AFileBefore}
-use Rattle.iris_plain.specs.Checks.{unresolved, move_checks, then_error, error_if, is_there}
+use Rattle.iris_plain.specs.Checks.{unresolved, move_checks, no_place, then_error, error_if, is_there}
 use Rattle.iris_plain.specs.Routes.{parent, last, is_top, is_front}
 use Rattle.iris_dirtree.specs.Rows.{Row, Content, Directory, File, HasRows, Rearranges, IsCountable, entry_of, up}
 use Rattle.iris_dirtree.specs.Hands.{Holding, IsRowNode, HoldsTrue}
@@ -35,7 +35,7 @@ use Rattle.iris_dirtree.proofs.Owned.{seen_own}
 use Rattle.iris_paths.specs.declared.resolving.Found.{Found}
 use Rattle.iris_paths.specs.declared.resolving.Found.TheVariants.{At}
 use Rattle.iris_paths.specs.declared.entering.Place.TheVariants.{In, Not}
-use Rattle.iris_paths.specs.Resolving.{Resolves}
+use Rattle.iris_paths.specs.Resolving.{root, Leads, Resolves}
 use Rattle.iris_paths.specs.Pictured.{Pictured, IsOnTrail, IsPathLack, every, AreInSight}
 use Rattle.iris_paths.specs.Following.{Follows, standing_seen, met_seen}
 use Rattle.iris_paths.specs.Entering.{IsPlace, Welcomes}
@@ -44,7 +44,7 @@ use Rattle.iris_paths.specs.Moving.{IsMovable, renamed, Takes, Puts, IsSource, I
 use Rattle.iris_dirtree.proofs.Likes.{placed_rows}
 use Rattle.iris_paths.proofs.Alike.{AnyNamed, any_alike}
 use Rattle.iris_paths.proofs.Reach.{same_reach, other_alike, live_along, live_near, live_folder}
-use Rattle.iris_paths.proofs.Steps.{ended}
+use Rattle.iris_paths.proofs.Steps.{step, ended}
 use Rattle.iris_paths.proofs.Reaching.{listed}
 use Rattle.iris_paths.proofs.Arriving.{comes, meets_so}
 use Rattle.iris_paths.proofs.Welcome.{node_there, not_top}
@@ -182,7 +182,7 @@ pub trail_lacks : (key : List ℕ) (from to names : List (List ℕ)) (d : Drafte
 trail_lacks key from to names d c (Need n x) f h = inl (record {
   unset = h.unset;
   absent = h.absent;
-  needed = λ met old new pic m. let w = h.needed met old new pic tt in (f new n w.0, w.1);
+  needed = λ met old new pic a. let w = h.needed met old new pic a in (f new n w.0, w.1);
 })
 trail_lacks key from to names d c NoMemory f h = tt
 
@@ -212,19 +212,43 @@ moved_reach key met from to d c old new pic m into at others then n h = elim h [
         let a = any_alike (last to) n (treap (up key) others) (treap (up key) at.rows) same k in
         (inr (inl (at.along at.rows n at.has (inr a))), live_along new (treap (up key) at.rows) (before (last to)) (is_named (last to)) n (placed_rows new key into at.rows pic.is at.has) a)
 
+-- a path that leads somewhere leads there from a directory that has rows
+dir_rows : (t : Shown) (key : List ℕ) (id above : FileId) (n : List ℕ) (ns : List (List ℕ)) (i dir : FileId) → Leads t key id above (n ∷ ns) (At i dir) → (rows : List Row) × HasRows t key dir rows
+dir_rows t key id above n [] i dir l = elim (step t key id above n [] (At i dir) l) [
+  | inl a ↦ absurd (let e = a.2 in cc)
+  | inr r ↦ elim r.2 [
+    | inl a ↦ absurd (let e = a.1 in cc)
+    | inr a ↦ (let same = same_parent i a.0 dir id (ended t key a.0 id (At i dir) a.2) in (r.0, subst (λ z. HasRows t key z r.0) (sym same) r.1))
+  ]
+]
+dir_rows t key id above n (m ∷ ms) i dir l = elim (step t key id above n (m ∷ ms) (At i dir) l) [
+  | inl a ↦ absurd (let e = a.2 in cc)
+  | inr r ↦ elim r.2 [ inl a ↦ absurd (let e = a.1 in cc) | inr a ↦ dir_rows t key a.0 id m ms i dir a.2 ]
+]
+
+path_rows : (t : Shown) (key : List ℕ) (names : List (List ℕ)) (i dir : FileId) → 0 < length names → Resolves t key names (At i dir) → (rows : List Row) × HasRows t key dir rows
+path_rows t key [] i dir some l = absurd (omega (arith, some))
+path_rows t key (n ∷ ns) i dir some l = dir_rows t key root root n ns i dir l
+
+-- the checks of the new name are the last of a move's
+pub rest_of_checks : (key : List ℕ) (met : List (List ℕ) → Seen) (from to : List (List ℕ)) (out : FileId) (d : Drafted) (c : Resident) (old new : Shown) (rest : Option PlainError) → IsSource d c from to (In out) → Pictured key met d c old new
+    → move_checks (is_top from) (met from) (is_front from to) rest ≡ rest
+rest_of_checks key met from to out d c old new rest source pic = moves_on met from to rest source.1 (source.3 key met old new pic).0 source.2
+
 pub move_lacks : (key : List ℕ) (from to : List (List ℕ)) (out into : FileId) (d : Drafted) (c : Resident) (e : Short) → IsSource d c from to (In out) → IsPlace d c to (In into) → IsCarryShort key out (last from) into (last to) d c e → IsMoveShort key from to d c e
 move_lacks key from to out into d c (Need n x) source place h = elim h [
   | inl k ↦ inl (record {
     unset = k.unset;
     absent = k.absent;
-    needed = λ met old new pic m.
-        let same = (source.3 key met old new pic).1 m.id m.out m.leads in
-        let has = subst (λ i. HasRows new key i m.rows) same m.takes.has in
-        let w = k.needed old new m.rows (listed out m.rows pic has) in
-        (inr (inr (record { id = m.id; dir = out; rows = m.rows; leads = subst (λ i. Resolves new key from (At m.id i)) same m.leads; has = has; met = w.0 })), w.1);
+    needed = λ met old new pic a.
+        let s = (source.3 key met old new pic).2 in
+        let r = path_rows new key from s.0 out source.1 s.1 in
+        let w = k.needed old new r.0 (listed out r.0 pic r.1) in
+        (inr (inr (record { id = s.0; dir = out; rows = r.0; leads = s.1; has = r.1; met = w.0 })), w.1);
   })
   | inr k ↦ inr (record {
     absent = k.absent;
+    passes = λ met old new pic. rest_of_checks key met from to out d c old new (no_place met false to) source pic ∙ (place.2 key met old new pic).allowed;
     needed = λ met old new pic m there beyond others leads has.
         let same = (source.3 key met old new pic).1 m.id m.out m.leads in
         let here = (place.2 key met old new pic).one there beyond leads in
@@ -235,11 +259,6 @@ move_lacks key from to out into d c (Need n x) source place h = elim h [
   })
 ]
 move_lacks key from to out into d c NoMemory source place h = tt
-
--- the checks of the new name are the last of a move's
-pub rest_of_checks : (key : List ℕ) (met : List (List ℕ) → Seen) (from to : List (List ℕ)) (out : FileId) (d : Drafted) (c : Resident) (old new : Shown) (rest : Option PlainError) → IsSource d c from to (In out) → Pictured key met d c old new
-    → move_checks (is_top from) (met from) (is_front from to) rest ≡ rest
-rest_of_checks key met from to out d c old new rest source pic = moves_on met from to rest source.1 (source.3 key met old new pic).0 source.2
 
 pub moves : (key : List ℕ) (from to : List (List ℕ)) (out into : FileId) (d e : Drafted) (c : Resident) → IsSource d c from to (In out) → IsPlace d c to (In into) → (label other : List ℕ) → label ≡ last from → other ≡ last to
     → ((old new mid made : Shown) (x : Row) (rows others : List Row) → IsTree old → IsTree new → Drafts old new d c → IsWhole old → Takes key out label x rows new mid → Puts key into other x others mid made → Drafts old made e c)

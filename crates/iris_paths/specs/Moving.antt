@@ -12,7 +12,7 @@ use Rattle.iris_cache.specs.Resident.{Resident, held}
 use Rattle.iris_cache.specs.Drafted.{Drafted, drafted}
 use Rattle.iris_cache.specs.Pictures.{Drafts}
 use Rattle.iris_plain.specs.declared.checks.Seen.{Seen}
-use Rattle.iris_plain.specs.Checks.{unresolved, move_checks}
+use Rattle.iris_plain.specs.Checks.{unresolved, move_checks, no_place}
 use Rattle.iris_plain.specs.Routes.{parent, last, is_top, is_front}
 use Rattle.iris_dirtree.specs.Rows.{Row, HasRows, Rearranges, IsCountable}
 use Rattle.iris_dirtree.specs.Ways.{Any, before, is_named, along_name, near_name}
@@ -22,7 +22,7 @@ use Rattle.iris_paths.specs.declared.entering.Place.{Place}
 use Rattle.iris_paths.specs.declared.entering.Place.TheVariants.{In, Not}
 use Rattle.iris_paths.specs.Resolving.{Resolves}
 use Rattle.iris_paths.specs.Making.{IsWhole}
-use Rattle.iris_paths.specs.Pictured.{Pictured, IsOnTrail, Lacks}
+use Rattle.iris_paths.specs.Pictured.{Pictured, IsOnTrail, Lacks, every}
 
 -- a row under another name
 abbrev pub renamed : List ℕ → Row → Row
@@ -90,10 +90,12 @@ pub record IsMovable (key : List ℕ) (from : List (List ℕ)) (old new : Shown)
 -- A renaming with the row in hand lacks a name. It is one of those that are reached before the row is taken out.
 pub record LacksInHand (key : List ℕ) (from to : List (List ℕ)) (d : Drafted) (c : Resident) (n : Name) (x : Expect) : Type 0 where
   pub absent : held c n ≡ None
+  -- no check stands against it
+  pub passes : (met : List (List ℕ) → Seen) (old new : Shown) → Pictured key met d c old new → move_checks (is_top from) (met from) (is_front from to) (no_place met false to) ≡ None
   pub needed : (met : List (List ℕ) → Seen) (old new : Shown) → Pictured key met d c old new → (m : IsMovable key from old new) (into beyond : FileId) (others : List Row)
       → Resolves new key (parent to) (At into beyond) → HasRows m.mid key into others → (drafted d n ≡ None) × IsMoved key from to new n × IsWanted old new c n x
 
 -- why a renaming stops
 abbrev pub IsMoveShort : List ℕ → List (List ℕ) → List (List ℕ) → Drafted → Resident → Short → Type 0
-IsMoveShort key from to d c (Need n x) = Lacks key (IsMovable key from) (IsMoved key from to) d c n x ⊎ LacksInHand key from to d c n x
+IsMoveShort key from to d c (Need n x) = Lacks key every (IsMoved key from to) d c n x ⊎ LacksInHand key from to d c n x
 IsMoveShort key from to d c NoMemory = Unit {0}

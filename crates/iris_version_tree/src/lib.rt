@@ -8,7 +8,7 @@ pub mod walk;
 
 pub use reading::{first_written, version_at};
 pub use setting::plan_set;
-pub use walk::is_file;
+pub use walk::{file_entry, is_file};
 
 #[cfg(test)]
 mod tests;

@@ -1,6 +1,6 @@
 //! Parts made of two halves.
 
-ghost use Rattle.std.specs.Prelude.{◌≡◌, ◌<◌, ◌≤◌, ◌+◌, ◌*◌, ◌^◌, ℕ, suc, IfOk, IfErr, OnOk, IsSome, false};
+ghost use Rattle.std.specs.Prelude.{◌≡◌, ◌<◌, ◌≤◌, ◌+◌, ◌*◌, ◌^◌, ℕ, suc, IfOk, IfErr, OnOk, IsSome, None, false};
 ghost use Rattle.iris_name.specs.Names.{same_name};
 ghost use Rattle.iris_name.specs.declared.name.Name.{Name as SpecName};
 ghost use Rattle.iris_node.specs.Rules.{IsFold};
@@ -153,6 +153,7 @@ pub(crate) fn join(
     requires fits { (index + 1) * 2 ^ level ≤ places }
     requires floor { level ≡ 1 → IsFold halves.low × IsFold halves.high }
     ensures frame { OnOk result ((n : SpecName) → same_name (Name.Part file level index) n ≡ false → drafted draft.new n ≡ drafted draft.old n) }
+    ensures keeps { OnOk result ((n : SpecName) → drafted draft.new n ≡ None → drafted draft.old n ≡ None) }
     ensures made { IfOk result (λ s. (old : Shown) → (v : ℕ → ℕ) → (w : ℕ → ℕ) → Joins old draft.old draft.new cache.now file v w level index was halves.low halves.high s) }
     ensures err { IfErr result (λ e. e ≡ Short.NoMemory) }
 {

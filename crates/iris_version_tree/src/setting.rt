@@ -1,6 +1,6 @@
 //! The versions of a range set.
 
-ghost use Rattle.std.specs.Prelude.{◌≡◌, ◌↔◌, IsTrue, ◌<◌, ◌≤◌, ◌+◌, ◌*◌, ◌^◌, ℕ, Some, IfOk, IfErr, IfSome, OnOk, false};
+ghost use Rattle.std.specs.Prelude.{◌≡◌, ◌↔◌, IsTrue, ◌<◌, ◌≤◌, ◌+◌, ◌*◌, ◌^◌, ℕ, Some, None, IfOk, IfErr, IfSome, OnOk, false};
 ghost use Rattle.iris_name.specs.Names.{same_name};
 ghost use Rattle.iris_name.specs.declared.name.Name.{Name as SpecName};
 ghost use Rattle.iris_node.specs.Fields.{EntryFields};
@@ -56,6 +56,7 @@ fn set_range(
     requires some { span.low < span.high }
     requires floor { level ≡ 0 → IsFold side }
     ensures frame { OnOk result (Frame draft.old draft.new file level index) }
+    ensures keeps { OnOk result ((n : SpecName) → drafted draft.new n ≡ None → drafted draft.old n ≡ None) }
     ensures made { IfOk result (λ s. (old : Shown) → (v : ℕ → ℕ) → Turns old draft.old draft.new cache.now file v (changed v span.low span.high span.version) level index side s) }
     ensures floor { IfOk result (λ s. level ≡ 0 → IsFold s) }
     ensures short { IfErr result (IsMissing draft.old cache.now file level index side span.low span.high) }
@@ -129,6 +130,7 @@ fn set_entry(
     requires { IsFile draft.old cache.now file }
     ensures entry { OnOk result ((e : EntryFields) → seen draft.old cache.now (Name.Entry file) ≡ Some (Node.Entry e) → drafted draft.new (Name.Entry file) ≡ Some (set_to (parent_after draft.old cache.now (Name.Entry file)) (Node.Entry (entry_with versions e)))) }
     ensures frame { OnOk result ((n : SpecName) → same_name (Name.Entry file) n ≡ false → drafted draft.new n ≡ drafted draft.old n) }
+    ensures keeps { OnOk result ((n : SpecName) → drafted draft.new n ≡ None → drafted draft.old n ≡ None) }
 {
     let parent = draft.parent(cache, &Name::Entry { id: file });
     let entry = entry_with(alloc, file_entry(draft, cache, file), versions)?;
@@ -155,6 +157,8 @@ pub fn plan_set(
     ensures entry { OnOk result ((e : EntryFields) → seen draft.old cache.now (Name.Entry file) ≡ Some (Node.Entry e) → HasEntryWith draft.new cache.now file e) }
     ensures file { OnOk result (IsFile draft.new cache.now file) }
     ensures others { OnOk result ((n : SpecName) → (IsWithin file 16 0 n → ⊥) → (n ≡ Name.Entry file → ⊥) → drafted draft.new n ≡ drafted draft.old n) }
+    // What was drafted stays drafted.
+    ensures keeps { OnOk result ((n : SpecName) → drafted draft.new n ≡ None → drafted draft.old n ≡ None) }
     ensures short { IfErr result (IsShort draft.old cache.now file low high) }
 {
     let side = top_side(draft, cache, file);

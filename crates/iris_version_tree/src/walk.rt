@@ -22,7 +22,7 @@ pub(crate) struct Even {
 }
 
 // The entry of a file.
-pub(crate) fn file_entry<'a>(draft: &'a Draft, cache: &'a Cache, file: FileId) -> &'a EntryNode
+pub fn file_entry<'a>(draft: &'a Draft, cache: &'a Cache, file: FileId) -> &'a EntryNode
     requires { IsFile draft.now cache.now file }
     ensures shown { seen draft.now cache.now (Name.Entry file) ≡ Some (Node.Entry result.now) }
     ensures own { result.now.id ≡ file }

@@ -1,0 +1,3 @@
+pub mod Files
+pub mod Reach
+pub mod Laws
