@@ -13,11 +13,11 @@ use Rattle.iris.specs.declared.top.Stop.TheVariants.{BadWords, BadLine, Unread, 
 use Rattle.iris.specs.Lines.{AllSpell, IsFirstBad, Spells, SpellsNone}
 use Rattle.iris.specs.Notes.{replies_of, AnyGetFailed, any_refused, printed}
 use Rattle.iris.specs.Outside.{IsFault}
-use Rattle.iris.specs.Reading.{HasMoreThan, IsWithin}
-use Rattle.iris.specs.Registers.{Bad, Legal}
+use Rattle.iris.specs.Reading.{HasMoreThan, IsAtMostLeft}
+use Rattle.iris.specs.Registers.{BadRegisters, LegalRegisters}
 use Rattle.iris.specs.Run.{IsEnd, Ran, status_of, line_of}
 use Rattle.iris.specs.Said.{Said}
-use Rattle.iris.specs.Top.{IsFresh, IsPrinted, WasRead, WentOn, IsBadOrLegal, HasNoKey, HasBadLine, IsTooLong, IsInForm, IsDoneIfHonest, AnyOther}
+use Rattle.iris.specs.Top.{IsEmptyLog, IsPrinted, WasRead, WentOn, IsBadOrLegal, HasNoKey, HasBadLine, IsTooLong, IsInForm, IsDoneIfHonest, AnyOther}
 use Rattle.iris.specs.Words.{AreWords}
 use Rattle.iris.proofs.Runs.{one_key, said_printed, silent_refused, all_more, if_told, judged_told, untouched_judged}
 use Rattle.iris.proofs.Refusals.{refused_met}
@@ -29,21 +29,21 @@ not_printed n (inr h) = omega (arith, h)
 
 -- the text that was written is the printing of the session's replies
 text_told : {words : List (List ℕ)} {left left_now : Option (List ℕ)} {traffic traffic_now : Option (List Transfer)} {failed failed_now : ℕ} {old new : Option (List Note)} {said : Said}
-    → Ran words left left_now traffic traffic_now failed failed_now old new said → IsFresh old → (notes : List Note) → new ≡ Some notes
+    → Ran words left left_now traffic traffic_now failed failed_now old new said → IsEmptyLog old → (notes : List Note) → new ≡ Some notes
     → said.text ≡ printed 1 (replies_of notes)
 text_told {old = old} {new = new} {said = said} r fresh notes e =
     let m = all_more old new r.serves.more notes fresh r.serves.notes e in
     ap (λ s. s.text) r.serves.replies ∙ (said_printed (replies_of r.serves.more) ∙ ap (λ z. printed 1 (replies_of z)) (sym m))
 
 refused_told : {words : List (List ℕ)} {left left_now : Option (List ℕ)} {traffic traffic_now : Option (List Transfer)} {failed failed_now : ℕ} {old new : Option (List Note)} {said : Said}
-    → Ran words left left_now traffic traffic_now failed failed_now old new said → IsFresh old → (notes : List Note) → new ≡ Some notes
+    → Ran words left left_now traffic traffic_now failed failed_now old new said → IsEmptyLog old → (notes : List Note) → new ≡ Some notes
     → said.refused ≡ any_refused (replies_of notes)
 refused_told {old = old} {new = new} {said = said} r fresh notes e =
     let m = all_more old new r.serves.more notes fresh r.serves.notes e in
     ap (λ s. s.refused) r.serves.replies ∙ (silent_refused (replies_of r.serves.more) ∙ ap (λ z. any_refused (replies_of z)) (sym m))
 
 pub printed_end : (words : List (List ℕ)) (left left_now : Option (List ℕ)) (a b : ℕ) (written written_now : Option (List ℕ)) (u v : ℕ) (traffic traffic_now : Option (List Transfer)) (f g : ℕ) (old new : Option (List Note)) (r : Result Bool Stop)
-    → IsFresh old → IsEnd words left left_now a b written written_now u v traffic traffic_now f g old new r
+    → IsEmptyLog old → IsEnd words left left_now a b written written_now u v traffic traffic_now f g old new r
     → IsPrinted (status_of r) → IfSome new (λ notes. written_now ≡ extended written (printed 1 (replies_of notes)))
 printed_end words left left_now a b written written_now u v traffic traffic_now f g old new (Ok refused) fresh e h = if_told _ new (λ notes told. e.2 ∙ ap (extended written) (text_told e.1 fresh notes told))
 printed_end words left left_now a b written written_now u v traffic traffic_now f g old new (Err BadWords) fresh e h = absurd (not_printed 0 h)
@@ -54,7 +54,7 @@ printed_end words left left_now a b written written_now u v traffic traffic_now 
 printed_end words left left_now a b written written_now u v traffic traffic_now f g old new (Err NoMemory) fresh e h = absurd (not_printed 6 h)
 
 pub refused_end : (words : List (List ℕ)) (left left_now : Option (List ℕ)) (a b : ℕ) (written written_now : Option (List ℕ)) (u v : ℕ) (traffic traffic_now : Option (List Transfer)) (f g : ℕ) (old new : Option (List Note)) (r : Result Bool Stop)
-    → IsFresh old → IsEnd words left left_now a b written written_now u v traffic traffic_now f g old new r
+    → IsEmptyLog old → IsEnd words left left_now a b written written_now u v traffic traffic_now f g old new r
     → IsPrinted (status_of r) → IfSome new (λ notes. (status_of r ≡ 1) ↔ IsTrue (any_refused (replies_of notes)))
 refused_end words left left_now a b written written_now u v traffic traffic_now f g old new (Ok true) fresh e h = if_told _ new (λ notes told. (λ one. sym (e.3 ∙ refused_told e.1 fresh notes told), λ some. refl))
 refused_end words left left_now a b written written_now u v traffic traffic_now f g old new (Ok false) fresh e h = if_told _ new (λ notes told. (λ one. absurd (omega (arith, one)), λ some. absurd (let z = e.3 ∙ (refused_told e.1 fresh notes told ∙ some) in cc)))
@@ -68,13 +68,13 @@ refused_end words left left_now a b written written_now u v traffic traffic_now 
 ran_judged : {words : List (List ℕ)} {left left_now : Option (List ℕ)} {traffic traffic_now : Option (List Transfer)} {failed failed_now : ℕ} {old new : Option (List Note)} {said : Said}
     → Ran words left left_now traffic traffic_now failed failed_now old new said → IfSome new (IsBadOrLegal words)
 ran_judged {words = words} {new = new} r = if_told _ new (λ notes told. λ master spoken.
-    subst (λ k. Bad (block_key k) (past_of (notes ∷ [])) ⊎ Legal (block_key k) (past_of (notes ∷ []))) (one_key words r.master master r.spoken spoken) (judged_told (block_key r.master) new notes told r.judged))
+    subst (λ k. BadRegisters (block_key k) (past_of (notes ∷ [])) ⊎ LegalRegisters (block_key k) (past_of (notes ∷ []))) (one_key words r.master master r.spoken spoken) (judged_told (block_key r.master) new notes told r.judged))
 
-untouched : (words : List (List ℕ)) (old new : Option (List Note)) → IsFresh old → new ≡ old → IfSome new (IsBadOrLegal words)
+untouched : (words : List (List ℕ)) (old new : Option (List Note)) → IsEmptyLog old → new ≡ old → IfSome new (IsBadOrLegal words)
 untouched words old new fresh e = if_told _ new (λ notes told. λ master spoken. untouched_judged (block_key master) old new notes fresh e told)
 
 pub judged_end : (words : List (List ℕ)) (left left_now : Option (List ℕ)) (a b : ℕ) (written written_now : Option (List ℕ)) (u v : ℕ) (traffic traffic_now : Option (List Transfer)) (f g : ℕ) (old new : Option (List Note)) (r : Result Bool Stop)
-    → IsFresh old → IsEnd words left left_now a b written written_now u v traffic traffic_now f g old new r → IfSome new (IsBadOrLegal words)
+    → IsEmptyLog old → IsEnd words left left_now a b written written_now u v traffic traffic_now f g old new r → IfSome new (IsBadOrLegal words)
 judged_end words left left_now a b written written_now u v traffic traffic_now f g old new (Ok refused) fresh e = ran_judged e.1
 judged_end words left left_now a b written written_now u v traffic traffic_now f g old new (Err Unwritten) fresh e = ran_judged e.1
 judged_end words left left_now a b written written_now u v traffic traffic_now f g old new (Err BadWords) fresh e = untouched words old new fresh e.1.no_notes
@@ -84,7 +84,7 @@ judged_end words left left_now a b written written_now u v traffic traffic_now f
 judged_end words left left_now a b written written_now u v traffic traffic_now f g old new (Err NoMemory) fresh e = elim e.2 [
   | inl same ↦ untouched words old new fresh same.0
   | inr short ↦ if_told _ new (λ notes told. λ master spoken.
-      subst (λ k. Bad (block_key k) (past_of (notes ∷ [])) ⊎ Legal (block_key k) (past_of (notes ∷ []))) (one_key words short.master master short.spoken spoken) (judged_told (block_key short.master) new notes told short.stops.judged))
+      subst (λ k. BadRegisters (block_key k) (past_of (notes ∷ [])) ⊎ LegalRegisters (block_key k) (past_of (notes ∷ []))) (one_key words short.master master short.spoken spoken) (judged_told (block_key short.master) new notes told short.stops.judged))
 ]
 
 pub words_end : (words : List (List ℕ)) (left left_now : Option (List ℕ)) (a b : ℕ) (written written_now : Option (List ℕ)) (u v : ℕ) (traffic traffic_now : Option (List Transfer)) (f g : ℕ) (old new : Option (List Note)) (r : Result Bool Stop)
@@ -99,7 +99,7 @@ words_end words left left_now a b written written_now u v traffic traffic_now f 
 words_end words left left_now a b written written_now u v traffic traffic_now f g old new (Err NoMemory) e = (λ h. absurd (omega (arith, h.0)), λ none. absurd (none e.0.0 e.0.1))
 
 pub cut_end : (words : List (List ℕ)) (left left_now : Option (List ℕ)) (a b : ℕ) (written written_now : Option (List ℕ)) (u v : ℕ) (traffic traffic_now : Option (List Transfer)) (f g : ℕ) (old new : Option (List Note)) (r : Result Bool Stop)
-    → IsFresh old → IsEnd words left left_now a b written written_now u v traffic traffic_now f g old new r
+    → IsEmptyLog old → IsEnd words left left_now a b written written_now u v traffic traffic_now f g old new r
     → status_of r ≡ 4 → IfSome new (λ notes. (n : ℕ) × (written_now ≡ extended written (take n (printed 1 (replies_of notes)))))
 cut_end words left left_now a b written written_now u v traffic traffic_now f g old new (Err Unwritten) fresh e h = if_told _ new (λ notes told. (e.2.0, e.2.1 ∙ ap (λ z. extended written (take e.2.0 z)) (text_told e.1 fresh notes told)))
 cut_end words left left_now a b written written_now u v traffic traffic_now f g old new (Ok true) fresh e h = absurd (omega (arith, h))
@@ -119,15 +119,15 @@ spell_apart lines (x ∷ before) rest line (request ∷ requests) a e none = let
 
 -- over an honest outside a well-formed run ends by 0 or 8, unless its history is bad
 honest_end : (words : List (List ℕ)) (left left_now : Option (List ℕ)) (a b : ℕ) (written written_now : Option (List ℕ)) (u v : ℕ) (traffic traffic_now : Option (List Transfer)) (f g : ℕ) (old new : Option (List Note)) (r : Result Bool Stop)
-    → IsFresh old → IsEnd words left left_now a b written written_now u v traffic traffic_now f g old new r
+    → IsEmptyLog old → IsEnd words left left_now a b written written_now u v traffic traffic_now f g old new r
     → (master bytes : List ℕ) (requests : List Request) (notes : List Note) → AreWords words master → left ≡ Some bytes → length bytes ≤ 16777216 → AllSpell (lines_of bytes) requests → new ≡ Some notes
     → (IsFault a b → ⊥) → (IsFault u v → ⊥) → (IsFault f g → ⊥) → (AnyOther (past_of (notes ∷ [])) → ⊥)
-    → (status_of r ≡ 0) ⊎ (status_of r ≡ 8) ⊎ Bad (block_key master) (past_of (notes ∷ []))
+    → (status_of r ≡ 0) ⊎ (status_of r ≡ 8) ⊎ BadRegisters (block_key master) (past_of (notes ∷ []))
 honest_end words left left_now a b written written_now u v traffic traffic_now f g old new (Ok false) fresh e master bytes requests notes spoken is short spell told x y z w = inl refl
 honest_end words left left_now a b written written_now u v traffic traffic_now f g old new (Ok true) fresh e master bytes requests notes spoken is short spell told x y z w =
     let m = all_more old new e.1.serves.more notes fresh e.1.serves.notes told in
     elim (judged_told (block_key e.1.master) new notes told e.1.judged) [
-      | inl bad ↦ inr (inr (subst (λ k. Bad (block_key k) (past_of (notes ∷ []))) (one_key words e.1.master master e.1.spoken spoken) bad))
+      | inl bad ↦ inr (inr (subst (λ k. BadRegisters (block_key k) (past_of (notes ∷ []))) (one_key words e.1.master master e.1.spoken spoken) bad))
       | inr legal ↦ elim (refused_met (block_key e.1.master) notes legal (sym (e.3 ∙ refused_told e.1 fresh notes told))) [
         | inl failed ↦ absurd (z (e.1.serves.caused (subst AnyGetFailed m failed)))
         | inr other ↦ absurd (w other)
@@ -143,8 +143,8 @@ honest_end words left left_now a b written written_now u v traffic traffic_now f
 honest_end words left left_now a b written written_now u v traffic traffic_now f g old new (Err NoMemory) fresh e master bytes requests notes spoken is short spell told x y z w = inr (inl refl)
 
 -- what is within the limit isn't above it
-above_limit : (left : Option (List ℕ)) (bytes : List ℕ) → left ≡ Some bytes → IsWithin left 16777216 → 16777216 < length bytes → ⊥
-above_limit left bytes is within more = let w : length bytes ≤ 16777216 = subst (λ l. IsWithin l 16777216) is within in omega (arith, w, more)
+above_limit : (left : Option (List ℕ)) (bytes : List ℕ) → left ≡ Some bytes → IsAtMostLeft left 16777216 → 16777216 < length bytes → ⊥
+above_limit left bytes is within more = let w : length bytes ≤ 16777216 = subst (λ l. IsAtMostLeft l 16777216) is within in omega (arith, w, more)
 
 if_left : (P : List ℕ → Type 0) (left : Option (List ℕ)) → ((bytes : List ℕ) → left ≡ Some bytes → P bytes) → IfSome left P
 if_left P None f = tt
@@ -180,8 +180,8 @@ one_bad lines m n x y =
     x.place ∙ (ap (λ k. k + 1) same ∙ sym y.place)
 
 -- the limit, of the bytes that are told
-within_told : (left : Option (List ℕ)) (bytes : List ℕ) → left ≡ Some bytes → IsWithin left 16777216 → length bytes ≤ 16777216
-within_told left bytes is within = subst (λ l. IsWithin l 16777216) is within
+within_told : (left : Option (List ℕ)) (bytes : List ℕ) → left ≡ Some bytes → IsAtMostLeft left 16777216 → length bytes ≤ 16777216
+within_told left bytes is within = subst (λ l. IsAtMostLeft l 16777216) is within
 
 over_told : (left : Option (List ℕ)) (bytes : List ℕ) → left ≡ Some bytes → HasMoreThan left 16777216 → 16777216 < length bytes
 over_told left bytes is more = subst (λ l. HasMoreThan l 16777216) is more
@@ -230,7 +230,7 @@ formed None form = absurd form
 formed (Some bytes) form = (bytes, refl, form.0, form.1, form.2)
 
 pub honest_told : (words : List (List ℕ)) (left left_now : Option (List ℕ)) (a b : ℕ) (written written_now : Option (List ℕ)) (u v : ℕ) (traffic traffic_now : Option (List Transfer)) (f g : ℕ) (old new : Option (List Note)) (r : Result Bool Stop)
-    → IsFresh old → IsEnd words left left_now a b written written_now u v traffic traffic_now f g old new r
+    → IsEmptyLog old → IsEnd words left left_now a b written written_now u v traffic traffic_now f g old new r
     → (master : List ℕ) → AreWords words master → IsInForm left → ¬ IsFault a b → ¬ IsFault u v → ¬ IsFault f g
     → IfSome new (IsDoneIfHonest master (status_of r))
 honest_told words left left_now a b written written_now u v traffic traffic_now f g old new r fresh e master spoken form x y z = let h = formed left form in if_told _ new (λ notes told. λ w.

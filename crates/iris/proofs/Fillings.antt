@@ -6,10 +6,10 @@ use Rattle.std.proofs.lemmas.List.Elements.{All-append, All-replicate}
 use Rattle.std.specs.Str.{IsUtf8}
 use lib.Utf8.{encode}
 use Rattle.iris_history.specs.Values.{AreBytes}
-use Rattle.iris.specs.Lines.{filled}
+use Rattle.iris.specs.Lines.{filled_block}
 use Rattle.iris.specs.Registers.{zeros}
 
-pub filled_from : (bytes old made : List ℕ) (n : ℕ) → made ≡ take 4096 old ++ replicate (4096 - n) 0 → n ≡ length old → old ≡ bytes → length bytes ≤ 4096 → made ≡ filled bytes
+pub filled_from : (bytes old made : List ℕ) (n : ℕ) → made ≡ take 4096 old ++ replicate (4096 - n) 0 → n ≡ length old → old ≡ bytes → length bytes ≤ 4096 → made ≡ filled_block bytes
 filled_from bytes old made n e len same le = e ∙ rw (len, same) (ap (λ z. z ++ replicate (4096 - length bytes) 0) (take_all 4096 bytes le))
 
 -- so many zeros are bytes
@@ -26,7 +26,7 @@ unfolding zeros
 bytes_zeros = bytes_replicate 4096
 
 -- bytes that are filled up stay bytes
-pub bytes_filled : (bytes : List ℕ) → AreBytes bytes → AreBytes (filled bytes)
+pub bytes_filled : (bytes : List ℕ) → AreBytes bytes → AreBytes (filled_block bytes)
 bytes_filled bytes h = All-append (λ b. b < 256) bytes (replicate (4096 - length bytes) 0) h (bytes_replicate (4096 - length bytes))
 
 -- the path of the one file is a text

@@ -3,39 +3,39 @@ use Rattle.std.proofs.Common.{◌≡◌, ℕ, ◌<◌, ◌≤◌, List, [], ◌�
 use Rattle.std.specs.Prelude.{codes}
 use Rattle.std.specs.List.{All}
 use Rattle.iris_name.specs.declared.request.Request.{Request}
-use Rattle.iris_script.specs.Cuts.{IsCut, Lacks}
+use Rattle.iris_script.specs.Cuts.{IsCut, IsByteFree}
 use Rattle.iris_script.specs.Words.{IsHexOf}
 use Rattle.iris_script.proofs.Cutting.{All-IsHexOf, IsCut-same, IsHexOf-same, IsNumber-same, Lacks-decimal, Lacks-not_here}
-use Rattle.iris.specs.Lines.{AllSpell, IsPlace, IsReadLine, IsWriteLine, Spells, SpellsNone, read_of, write_of}
+use Rattle.iris.specs.Lines.{AllSpell, IsRegisterNumber, IsReadLine, IsWriteLine, Spells, SpellsNone, read_of, write_of}
 use Rattle.iris.specs.Lines.Spells.{Writes, Reads}
 
 -- no blank stands in the number of a register
-Lacks-IsPlace : (word : List ℕ) (place : ℕ) → IsPlace word place → Lacks word 32
-Lacks-IsPlace word place h = let P : List ℕ → Type 0 = λ w. Lacks w 32 in subst P (sym h.0.1) (Lacks-decimal place h.0.0)
+Lacks-IsPlace : (word : List ℕ) (place : ℕ) → IsRegisterNumber word place → IsByteFree word 32
+Lacks-IsPlace word place h = let P : List ℕ → Type 0 = λ w. IsByteFree w 32 in subst P (sym h.0.1) (Lacks-decimal place h.0.0)
 
-pub IsPlace-same : (word : List ℕ) (a b : ℕ) → IsPlace word a → IsPlace word b → a ≡ b
+pub IsPlace-same : (word : List ℕ) (a b : ℕ) → IsRegisterNumber word a → IsRegisterNumber word b → a ≡ b
 IsPlace-same word a b h k = IsNumber-same word a b h.0 k.0
 
 -- words without a blank are no place and digits
-pub IsWriteLine-blank : (words : List ℕ) → Lacks words 32 → (place : ℕ) (bytes : List ℕ) → IsWriteLine (codes "write " ++ words) place bytes → ⊥
+pub IsWriteLine-blank : (words : List ℕ) → IsByteFree words 32 → (place : ℕ) (bytes : List ℕ) → IsWriteLine (codes "write " ++ words) place bytes → ⊥
 IsWriteLine-blank words lacks place bytes w =
     let e : words ≡ w.word ++ 32 ∷ w.digits = cc w.text in
-    let P : List ℕ → Type 0 = λ v. Lacks v 32 in
+    let P : List ℕ → Type 0 = λ v. IsByteFree v 32 in
     Lacks-not_here 32 w.word w.digits (subst P e lacks)
 
 -- the words of a write are what stands before and after the first blank
 pub IsWriteLine-cut : (words word digits : List ℕ) → IsCut words 32 word digits → (place : ℕ) (bytes : List ℕ)
-    → IsWriteLine (codes "write " ++ words) place bytes → IsPlace word place × IsHexOf digits bytes × (length bytes ≤ 4096)
+    → IsWriteLine (codes "write " ++ words) place bytes → IsRegisterNumber word place × IsHexOf digits bytes × (length bytes ≤ 4096)
 IsWriteLine-cut words word digits cut place bytes w =
     let e : words ≡ w.word ++ 32 ∷ w.digits = cc w.text in
     let same = IsCut-same 32 word digits w.word w.digits cut.lacks (Lacks-IsPlace w.word place w.is_place) (sym cut.whole ∙ e) in
-    let P : List ℕ → Type 0 = λ v. IsPlace v place in
+    let P : List ℕ → Type 0 = λ v. IsRegisterNumber v place in
     let Q : List ℕ → Type 0 = λ v. IsHexOf v bytes in
     (subst P (sym same.0) w.is_place, subst Q (sym same.1) w.is_hex, w.fits)
 
 -- a write, of its words
 pub IsWriteLine-from : (words word digits : List ℕ) → IsCut words 32 word digits → (place : ℕ) (bytes : List ℕ)
-    → IsPlace word place → IsHexOf digits bytes → length bytes ≤ 4096 → IsWriteLine (codes "write " ++ words) place bytes
+    → IsRegisterNumber word place → IsHexOf digits bytes → length bytes ≤ 4096 → IsWriteLine (codes "write " ++ words) place bytes
 IsWriteLine-from words word digits cut place bytes p h fits = record {
   word = word;
   digits = digits;
@@ -63,7 +63,7 @@ Spells-write line words place bytes e w =
     let P : List ℕ → Type 0 = λ v. IsWriteLine v place bytes in
     Writes place bytes (subst P (sym e) w)
 
-pub Spells-read : (line word : List ℕ) (place : ℕ) → line ≡ codes "read " ++ word → IsPlace word place → Spells line (read_of place)
+pub Spells-read : (line word : List ℕ) (place : ℕ) → line ≡ codes "read " ++ word → IsRegisterNumber word place → Spells line (read_of place)
 Spells-read line word place e p = Reads place (record { word = word; text = e; is_place = p })
 
 -- a line that begins as a write, but is none
@@ -75,13 +75,13 @@ SpellsNone-write line words e none =
     (λ place r. forms_differ words r.word (sym e ∙ r.text))
 
 -- a line that begins as a read, but is none
-pub SpellsNone-read : (line word : List ℕ) → line ≡ codes "read " ++ word → ((place : ℕ) → IsPlace word place → ⊥) → SpellsNone line
+pub SpellsNone-read : (line word : List ℕ) → line ≡ codes "read " ++ word → ((place : ℕ) → IsRegisterNumber word place → ⊥) → SpellsNone line
 SpellsNone-read line word e none =
     SpellsNone-from line
     (λ place bytes w. forms_differ (w.word ++ (codes " " ++ w.digits)) word (sym w.text ∙ e))
     (λ place r.
     let same : word ≡ r.word = cc (e, r.text) in
-    let P : List ℕ → Type 0 = λ v. IsPlace v place in
+    let P : List ℕ → Type 0 = λ v. IsRegisterNumber v place in
     none place (subst P (sym same) r.is_place))
 
 -- a line that begins as neither
@@ -100,7 +100,7 @@ IsWriteLine-same : (line : List ℕ) (p q : ℕ) (a b : List ℕ) → IsWriteLin
 IsWriteLine-same line p q a b v w =
     let e : v.word ++ 32 ∷ v.digits ≡ w.word ++ 32 ∷ w.digits = cc (v.text, w.text) in
     let same = IsCut-same 32 v.word v.digits w.word w.digits (Lacks-IsPlace v.word p v.is_place) (Lacks-IsPlace w.word q w.is_place) e in
-    let P : List ℕ → Type 0 = λ x. IsPlace x q in
+    let P : List ℕ → Type 0 = λ x. IsRegisterNumber x q in
     let Q : List ℕ → Type 0 = λ x. IsHexOf x b in
     let places = IsPlace-same v.word p q v.is_place (subst P (sym same.0) w.is_place) in
     let bytes = IsHexOf-same v.digits a b v.is_hex (subst Q (sym same.1) w.is_hex) in
@@ -110,7 +110,7 @@ IsWriteLine-same line p q a b v w =
 IsReadLine-same : (line : List ℕ) (p q : ℕ) → IsReadLine line p → IsReadLine line q → p ≡ q
 IsReadLine-same line p q v w =
     let e : v.word ≡ w.word = cc (v.text, w.text) in
-    let P : List ℕ → Type 0 = λ x. IsPlace x q in
+    let P : List ℕ → Type 0 = λ x. IsRegisterNumber x q in
     IsPlace-same v.word p q v.is_place (subst P (sym e) w.is_place)
 
 -- a line spells one request at most

@@ -9,7 +9,7 @@ use Rattle.iris.specs.declared.session.Session.{Session}
 use Rattle.iris.specs.Lines.{request_of}
 use Rattle.iris.specs.Said.{silent}
 use Rattle.iris.specs.Session.{Serves, Stops, IsReady, IsFew, IsOneMore, ServedAtMost, IsJudged}
-use Rattle.iris.specs.Top.{IsFresh}
+use Rattle.iris.specs.Top.{IsEmptyLog}
 use Rattle.iris.proofs.Sessions.{keeps_first}
 use Rattle.iris.proofs.Stretches.{serves_more, serves_none, stops_more, stops_first}
 
@@ -31,7 +31,7 @@ append_nil (x ∷ xs) = ap (λ ys. x ∷ ys) (append_nil xs)
 
 -- a session that hasn't begun
 pub goes_first : (key : List ℕ) (lines : List Line) (old : Option (List Note)) (before : Option (List Transfer)) (f : ℕ) (s : Session)
-    → IsFresh old → (length s.places.versions.items ≡ 65536) × (length s.places.kept.items ≡ 65536) → (s.places.counter ≡ 0) × (s.noted ≡ 0)
+    → IsEmptyLog old → (length s.places.versions.items ≡ 65536) × (length s.places.kept.items ≡ 65536) → (s.places.counter ≡ 0) × (s.noted ≡ 0)
     → ((p : ℕ) → get_or s.places.versions.items p 0 ≡ 0) → ((p : ℕ) → get_or s.places.kept.items p None ≡ None) → s.replies ≡ silent
     → Goes key lines lines old old before before f f s
 goes_first key lines old before f s fresh sizes counts versions kept replies = record {
@@ -97,6 +97,6 @@ empty_by_length [] e = refl
 empty_by_length (x ∷ xs) e = absurd (omega (arith, e))
 
 -- before its first note a session is legal
-pub fresh_judged : (key : List ℕ) (old : Option (List Note)) → IsFresh old → IsJudged key old
+pub fresh_judged : (key : List ℕ) (old : Option (List Note)) → IsEmptyLog old → IsJudged key old
 fresh_judged key None fresh = tt
 fresh_judged key (Some notes) fresh = subst (λ z. IsJudged key (Some z)) (sym fresh) (inr tt)

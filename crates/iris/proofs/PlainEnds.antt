@@ -8,8 +8,8 @@ use Rattle.iris.specs.declared.plain.Halt.{Halt}
 use Rattle.iris.specs.declared.plain.Halt.TheVariants.{Stopped, FarClient}
 use Rattle.iris.specs.declared.top.Stop.TheVariants.{BadWords, BadLine, Unread, Unwritten, TooLong, NoMemory}
 use Rattle.iris.specs.Outside.{IsFault}
-use Rattle.iris.specs.Plain.{ArePlain, AreNotPlain, IsEnd, FirstLine, WasAsked, ended_as}
-use Rattle.iris.specs.Reading.{HasMoreThan, IsWithin}
+use Rattle.iris.specs.Plain.{ArePlain, AreNotPlain, IsPlainEnd, FirstLine, WasAsked, ended_as}
+use Rattle.iris.specs.Reading.{HasMoreThan, IsAtMostLeft}
 
 abbrev Bytes : Type 0
 Bytes = Option (List ℕ)
@@ -19,7 +19,7 @@ Ended = Result (Unit {0}) Halt
 
 -- words that hold a key aren't others
 pub words_end : (words : List (List ℕ)) (left left_now : Bytes) (a b : ℕ) (written written_now : Bytes) (u v : ℕ) (r : Ended)
-    → IsEnd words left left_now a b written written_now u v r → (((ended_as r).0 ≡ 2) × ((ended_as r).1 ≡ 0)) ↔ AreNotPlain words
+    → IsPlainEnd words left left_now a b written written_now u v r → (((ended_as r).0 ≡ 2) × ((ended_as r).1 ≡ 0)) ↔ AreNotPlain words
 words_end words left left_now a b written written_now u v (Ok x) e = (λ h. absurd (omega (arith, h.0)), λ none. absurd (none e.1.master e.1.spoken))
 words_end words left left_now a b written written_now u v (Err (Stopped Unwritten)) e = (λ h. absurd (omega (arith, h.0)), λ none. absurd (none e.0.1.master e.0.1.spoken))
 words_end words left left_now a b written written_now u v (Err (Stopped BadWords)) e = (λ h. e.0, λ none. (refl, refl))
@@ -38,12 +38,12 @@ first_told Bad left bytes n is first = subst (λ l. FirstLine Bad l n) is first
 over_limit : (left : Bytes) (bytes : List ℕ) → left ≡ Some bytes → length bytes ≤ 16777216 → HasMoreThan left 16777216 → ⊥
 over_limit left bytes is short more = let m : 16777216 < length bytes = subst (λ l. HasMoreThan l 16777216) is more in omega (arith, m, short)
 
-under_limit : (left : Bytes) (bytes : List ℕ) → left ≡ Some bytes → 16777216 < length bytes → IsWithin left 16777216 → ⊥
-under_limit left bytes is long within = let w : length bytes ≤ 16777216 = subst (λ l. IsWithin l 16777216) is within in omega (arith, w, long)
+under_limit : (left : Bytes) (bytes : List ℕ) → left ≡ Some bytes → 16777216 < length bytes → IsAtMostLeft left 16777216 → ⊥
+under_limit left bytes is long within = let w : length bytes ≤ 16777216 = subst (λ l. IsAtMostLeft l 16777216) is within in omega (arith, w, long)
 
 -- over an outside without faults a script of calls is served
 pub served_end : (words : List (List ℕ)) (left left_now : Bytes) (a b : ℕ) (written written_now : Bytes) (u v : ℕ) (r : Ended)
-    → IsEnd words left left_now a b written written_now u v r
+    → IsPlainEnd words left left_now a b written written_now u v r
     → (master bytes : List ℕ) (calls : List (ℕ × Request)) → ArePlain words master → left ≡ Some bytes → length bytes ≤ 16777216 → AllAsk (script_lines bytes) calls
     → (IsFault a b → ⊥) → (IsFault u v → ⊥) → ((ended_as r).0 ≡ 0) ⊎ ((ended_as r).0 ≡ 8)
 served_end words left left_now a b written written_now u v (Ok x) e master bytes calls spoken is short asks read wrote = inl refl
@@ -59,7 +59,7 @@ served_end words left left_now a b written written_now u v (Err (Stopped NoMemor
 
 -- a first line that is no request is told
 pub line_end : (words : List (List ℕ)) (left left_now : Bytes) (a b : ℕ) (written written_now : Bytes) (u v : ℕ) (r : Ended)
-    → IsEnd words left left_now a b written written_now u v r
+    → IsPlainEnd words left left_now a b written written_now u v r
     → (master bytes : List ℕ) (n : ℕ) → ArePlain words master → left ≡ Some bytes → length bytes ≤ 16777216 → IsFirst IsNoRequest (script_lines bytes) n
     → (IsFault a b → ⊥) → (ended_as r ≡ (2, n)) ⊎ ((ended_as r).0 ≡ 8)
 line_end words left left_now a b written written_now u v (Ok x) e master bytes n spoken is short first read =
@@ -77,7 +77,7 @@ line_end words left left_now a b written written_now u v (Err (Stopped NoMemory)
 
 -- and so is a first line that names a client above 16
 pub client_end : (words : List (List ℕ)) (left left_now : Bytes) (a b : ℕ) (written written_now : Bytes) (u v : ℕ) (r : Ended)
-    → IsEnd words left left_now a b written written_now u v r
+    → IsPlainEnd words left left_now a b written written_now u v r
     → (master bytes : List ℕ) (n : ℕ) → ArePlain words master → left ≡ Some bytes → length bytes ≤ 16777216 → IsFirst NamesFarClient (script_lines bytes) n
     → (IsFault a b → ⊥) → (ended_as r ≡ (7, n)) ⊎ ((ended_as r).0 ≡ 8)
 client_end words left left_now a b written written_now u v (Ok x) e master bytes n spoken is short first read =
@@ -95,7 +95,7 @@ client_end words left left_now a b written written_now u v (Err (Stopped NoMemor
 
 -- a script that is too long is told
 pub length_end : (words : List (List ℕ)) (left left_now : Bytes) (a b : ℕ) (written written_now : Bytes) (u v : ℕ) (r : Ended)
-    → IsEnd words left left_now a b written written_now u v r
+    → IsPlainEnd words left left_now a b written written_now u v r
     → (master bytes : List ℕ) → ArePlain words master → left ≡ Some bytes → 16777216 < length bytes
     → (IsFault a b → ⊥) → (ended_as r ≡ (7, 0)) ⊎ ((ended_as r).0 ≡ 8)
 length_end words left left_now a b written written_now u v (Ok x) e master bytes spoken is long read = absurd (under_limit left bytes is long e.1.limit)

@@ -4,7 +4,7 @@ use Rattle.std.proofs.lemmas.List.{drop_more, drop_all}
 use Rattle.iris_name.specs.declared.request.Request.{Request}
 use Rattle.iris_name.specs.declared.request.Reply.{Reply}
 use Rattle.iris_name.specs.Hmac.{order_key}
-use Rattle.iris_script.specs.Script.{AllAsk, IsFault as IsScriptFault, script_lines}
+use Rattle.iris_script.specs.Script.{AllAsk, IsScriptFault as IsScriptFault, script_lines}
 use Rattle.iris_script.specs.declared.script.ScriptError.{ScriptError}
 use Rattle.iris_script.specs.declared.script.ScriptError.TheVariants as script
 use Rattle.iris_table.specs.Changes.{stepped}
@@ -12,8 +12,8 @@ use Rattle.iris_table.specs.Replies.{TableReplies}
 use Rattle.iris_table.specs.Rows.{Table, empty_table}
 use Rattle.iris.specs.declared.reading.ReadError.{ReadError}
 use Rattle.iris.specs.declared.reading.ReadError.TheVariants as read
-use Rattle.iris.specs.Plain.{AreRight, ArePlain, Served, WasAsked, IsEnd, halt_of_read, halt_of_script}
-use Rattle.iris.specs.Reading.{IsAllOf, IsWithin, MayEnd}
+use Rattle.iris.specs.Plain.{AreRight, ArePlain, Served, WasAsked, IsPlainEnd, halt_of_read, halt_of_script}
+use Rattle.iris.specs.Reading.{IsAllOf, IsAtMostLeft, MayEnd}
 
 abbrev Call : Type 0
 Call = ℕ × Request
@@ -47,19 +47,19 @@ served_all key t calls i done over before =
 
 -- a reading that ended by an error
 pub read_end : (words : List (List ℕ)) (left left_now : Option (List ℕ)) (a b : ℕ) (written : Option (List ℕ)) (u v : ℕ) (master : List ℕ) (e : ReadError)
-    → ArePlain words master → MayEnd left a b 16777216 e → IsEnd words left left_now a b written written u v (Err (halt_of_read e))
+    → ArePlain words master → MayEnd left a b 16777216 e → IsPlainEnd words left left_now a b written written u v (Err (halt_of_read e))
 read_end words left left_now a b written u v master read.Failed spoken may = ((master, spoken), may, refl)
 read_end words left left_now a b written u v master read.TooLong spoken may = ((master, spoken), may, refl)
 read_end words left left_now a b written u v master read.NoMemory spoken may = ((master, spoken), refl)
 
-within : (left left_now : Option (List ℕ)) (bytes : List ℕ) → IsAllOf left left_now bytes → length bytes ≤ 16777216 → IsWithin left 16777216
+within : (left left_now : Option (List ℕ)) (bytes : List ℕ) → IsAllOf left left_now bytes → length bytes ≤ 16777216 → IsAtMostLeft left 16777216
 within None left_now bytes all short = tt
 within (Some told) left_now bytes all short = subst (λ z. length z ≤ 16777216) all.0 short
 
 -- a script that isn't read
 pub script_end : (words : List (List ℕ)) (left left_now : Option (List ℕ)) (a b : ℕ) (written : Option (List ℕ)) (u v : ℕ) (master bytes : List ℕ) (e : ScriptError)
     → ArePlain words master → IsAllOf left left_now bytes → length bytes ≤ 16777216 → IsScriptFault (script_lines bytes) e
-    → IsEnd words left left_now a b written written u v (Err (halt_of_script e))
+    → IsPlainEnd words left left_now a b written written u v (Err (halt_of_script e))
 script_end words None left_now a b written u v master bytes (script.NotRequest n) spoken all short bad =
     (((master, spoken), tt), tt, (λ z. let p = bad.place in omega (arith, z, p)), refl)
 script_end words (Some told) left_now a b written u v master bytes (script.NotRequest n) spoken all short bad =

@@ -12,7 +12,7 @@ use Rattle.iris_history.specs.Answers.{last_of, IsOther, IsFailure}
 use Rattle.iris_history.specs.Legal.{IsLawful, IsLicensed, Licenses}
 use Rattle.iris_history.proofs.Names.{named}
 use Rattle.iris.specs.Notes.{replies_of, AnyGetFailed, is_refused, any_refused}
-use Rattle.iris.specs.Registers.{Legal, registers, register_rules, Replies, Registers}
+use Rattle.iris.specs.Registers.{LegalRegisters, registers, register_rules, Replies, Registers}
 use Rattle.iris.specs.Top.{AnyOther, IsOtherGet}
 use Rattle.iris.proofs.Tables.{table}
 
@@ -84,7 +84,7 @@ refusal key opened past at (Got who since name answer) l r = absurd r
 refusal key opened past at (Put who since name bytes ok) l r = absurd r
 refusal key opened past at (Dropped who since name ok) l r = absurd r
 
-met : (key : List ℕ) (past : Past) → Legal key past → AnyNote IsRefusal past → AnyNote IsFailedGet past ⊎ AnyOther past
+met : (key : List ℕ) (past : Past) → LegalRegisters key past → AnyNote IsRefusal past → AnyNote IsFailedGet past ⊎ AnyOther past
 met key [] legal h = absurd h
 met key (x ∷ past) legal (inl r) = elim (refusal key x.opened past (begun past x) x.note legal.0 r) [ inl f ↦ inl (inr f) | inr o ↦ inr (inr o) ]
 met key (x ∷ past) legal (inr r) = elim (met key past legal.1 r) [ inl f ↦ inl (inr f) | inr o ↦ inr (inr o) ]
@@ -116,7 +116,7 @@ failed_noted opened past (Put who since name bytes ok ∷ notes) h = elim (faile
 failed_noted opened past (Dropped who since name ok ∷ notes) h = elim (failed_noted opened (record { note = Dropped who since name ok; opened = opened } ∷ past) notes h) [ inl a ↦ elim a [ inl z ↦ absurd z | inr b ↦ inl b ] | inr c ↦ inr c ]
 
 -- where a legal session has a refusal, one of its gets failed or gave something else
-pub refused_met : (key : List ℕ) (notes : List Note) → Legal key (past_of (notes ∷ [])) → any_refused (replies_of notes) ≡ true → AnyGetFailed notes ⊎ AnyOther (past_of (notes ∷ []))
+pub refused_met : (key : List ℕ) (notes : List Note) → LegalRegisters key (past_of (notes ∷ [])) → any_refused (replies_of notes) ≡ true → AnyGetFailed notes ⊎ AnyOther (past_of (notes ∷ []))
 refused_met key notes legal h = elim (met key (past_of (notes ∷ [])) legal (refused_noted 0 [] notes h)) [
   | inl f ↦ elim (failed_noted 0 [] notes f) [ inl z ↦ absurd z | inr g ↦ inl g ]
   | inr o ↦ inr o

@@ -11,13 +11,13 @@ use Rattle.iris_script.specs.Printing.{reply_line}
 use Rattle.iris_store.specs.declared.Transfer.{Transfer}
 use Rattle.iris.specs.Lines.{AllSpell}
 use Rattle.iris.specs.Notes.{is_refused, any_refused, printed_from, printed}
-use Rattle.iris.specs.Reading.{IsAllOf, IsWithin}
-use Rattle.iris.specs.Registers.{Bad, Legal}
+use Rattle.iris.specs.Reading.{IsAllOf, IsAtMostLeft}
+use Rattle.iris.specs.Registers.{BadRegisters, LegalRegisters}
 use Rattle.iris.specs.Run.{Ran}
 use Rattle.iris.specs.Said.{Said, saying, saying_all, silent}
 use Rattle.iris.specs.Session.{Serves, IsJudged, HasShape}
 use Rattle.iris.specs.Shape.{IsShaped}
-use Rattle.iris.specs.Top.{IsFresh, WasRead}
+use Rattle.iris.specs.Top.{IsEmptyLog, WasRead}
 use Rattle.iris.specs.Words.{AreWords}
 
 -- words hold one key
@@ -54,7 +54,7 @@ pub silent_refused : (replies : List Reply) → (saying_all silent replies).refu
 silent_refused replies = said_refused silent replies
 
 -- the notes of a session that began with none are those that it added
-pub all_more : (old new : Option (List Note)) (more notes : List Note) → IsFresh old → new ≡ extended old more → new ≡ Some notes → notes ≡ more
+pub all_more : (old new : Option (List Note)) (more notes : List Note) → IsEmptyLog old → new ≡ extended old more → new ≡ Some notes → notes ≡ more
 all_more None new more notes fresh e f = absurd (let g = sym f ∙ e in cc)
 all_more (Some []) new more notes fresh e f = let g = sym f ∙ e in cc
 all_more (Some (x ∷ xs)) new more notes fresh e f = absurd (cc)
@@ -65,21 +65,21 @@ if_told P None f = tt
 if_told P (Some notes) f = f notes refl
 
 -- a judgement of a session that is told
-pub judged_told : (key : List ℕ) (new : Option (List Note)) (notes : List Note) → new ≡ Some notes → IsJudged key new → Bad key (past_of (notes ∷ [])) ⊎ Legal key (past_of (notes ∷ []))
+pub judged_told : (key : List ℕ) (new : Option (List Note)) (notes : List Note) → new ≡ Some notes → IsJudged key new → BadRegisters key (past_of (notes ∷ [])) ⊎ LegalRegisters key (past_of (notes ∷ []))
 judged_told key new notes e j = subst (IsJudged key) e j
 
 pub shaped_told : (key : List ℕ) (new : Option (List Note)) (notes : List Note) → new ≡ Some notes → HasShape key new → IsShaped key (past_of (notes ∷ []))
 shaped_told key new notes e j = subst (HasShape key) e j
 
 -- no notes are legal
-pub untouched_judged : (key : List ℕ) (old new : Option (List Note)) (notes : List Note) → IsFresh old → new ≡ old → new ≡ Some notes → Bad key (past_of (notes ∷ [])) ⊎ Legal key (past_of (notes ∷ []))
-untouched_judged key old new notes fresh e f = subst (λ ns. Bad key (past_of (ns ∷ [])) ⊎ Legal key (past_of (ns ∷ []))) (sym (no_notes old new notes fresh e f)) (inr tt) where
-  no_notes : (old new : Option (List Note)) (notes : List Note) → IsFresh old → new ≡ old → new ≡ Some notes → notes ≡ []
+pub untouched_judged : (key : List ℕ) (old new : Option (List Note)) (notes : List Note) → IsEmptyLog old → new ≡ old → new ≡ Some notes → BadRegisters key (past_of (notes ∷ [])) ⊎ LegalRegisters key (past_of (notes ∷ []))
+untouched_judged key old new notes fresh e f = subst (λ ns. BadRegisters key (past_of (ns ∷ [])) ⊎ LegalRegisters key (past_of (ns ∷ []))) (sym (no_notes old new notes fresh e f)) (inr tt) where
+  no_notes : (old new : Option (List Note)) (notes : List Note) → IsEmptyLog old → new ≡ old → new ≡ Some notes → notes ≡ []
   no_notes None new notes fresh e f = absurd (let g = sym f ∙ e in cc)
   no_notes (Some ns) new notes fresh e f = let g : Some notes ≡ Some ns = sym f ∙ e in let h : notes ≡ ns = cc in h ∙ fresh
 
 -- a source of which so much was read has so much
-pub within : (left left_now : Option (List ℕ)) (bytes : List ℕ) → IsAllOf left left_now bytes → length bytes ≤ 16777216 → IsWithin left 16777216
+pub within : (left left_now : Option (List ℕ)) (bytes : List ℕ) → IsAllOf left left_now bytes → length bytes ≤ 16777216 → IsAtMostLeft left 16777216
 within None left_now bytes whole len = tt
 within (Some l) left_now bytes whole len = subst (λ z. length z ≤ 16777216) whole.0 len
 

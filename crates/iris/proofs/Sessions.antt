@@ -16,13 +16,13 @@ use Rattle.iris_history.specs.Values.{AreBytes, IsReply}
 use Rattle.iris_history.proofs.Growth.{judged_more}
 use Rattle.iris_history.proofs.Pasts.{past_last}
 use Rattle.iris.specs.Agrees.{Agrees, Keeps}
-use Rattle.iris.specs.Answers.{Fits}
-use Rattle.iris.specs.Registers.{registers, register_rules, Bad, Legal, Clean, zeros, place_of, block_name}
+use Rattle.iris.specs.Answers.{IsRightReply}
+use Rattle.iris.specs.Registers.{registers, register_rules, BadRegisters, LegalRegisters, Clean, zeros, register_at, block_name}
 use Rattle.iris.specs.declared.session.Session.{Session}
-use Rattle.iris.specs.Lines.{filled, read_of}
+use Rattle.iris.specs.Lines.{filled_block, read_of}
 use Rattle.iris.specs.Session.{IsJudged, IsReady, HasShape}
 use Rattle.iris.specs.Shape.{IsShaped, Empty, Wrote, Fetched, Had}
-use Rattle.iris.specs.Top.{IsFresh}
+use Rattle.iris.specs.Top.{IsEmptyLog}
 use Rattle.iris.proofs.Fillings.{path_is_text, bytes_zeros, bytes_filled}
 use Rattle.iris.proofs.Readings.{read_here, read_zeros, read_got, got_lawful}
 use Rattle.iris.proofs.Steps.{noted, wrote, judged_call}
@@ -35,7 +35,7 @@ not_live key past p e c = is_live (table key past) p c.live e
 past_last_two : (notes : List Note) (x y : Note) → past_of (((notes ++ x ∷ []) ++ y ∷ []) ∷ []) ≡ noted y ∷ noted x ∷ past_of (notes ∷ [])
 past_last_two notes x y = past_last (notes ++ x ∷ []) y ∙ ap (λ p. noted y ∷ p) (past_last notes x)
 
-place_is : (p : ℕ) → place_of (p * 4096) ≡ p
+place_is : (p : ℕ) → register_at (p * 4096) ≡ p
 place_is p = omega arith
 
 -- the notes of a write, told or not
@@ -73,8 +73,8 @@ read_zeros_told key counter notes versions kept None new p b request k n r lt z 
 read_zeros_told key counter notes versions kept (Some ns) new p b request k n r lt z e =
     let place = place_is p in
     let here = read_zeros key counter notes versions kept (past_of (ns ∷ [])) 1 (codes "/f") (p * 4096) 4096 k.0 path_is_text bytes_zeros (subst (λ q. q < 65536) (sym place) lt) (subst (λ q. get_or versions q 0 ≡ 0) (sym place) z) in
-    let none : (table key (past_of (ns ∷ []))).version (place_of (p * 4096)) ≡ 0 = sym (k.0.version (place_of (p * 4096)) (subst (λ q. q < 65536) (sym place) lt)) ∙ subst (λ q. get_or versions q 0 ≡ 0) (sym place) z in
-    let shaped = Had (past_of (ns ∷ [])) 0 1 (p * 4096) 4096 (codes "/f") (Bytes b) (not_live key (past_of (ns ∷ [])) (place_of (p * 4096)) none) k.1 in
+    let none : (table key (past_of (ns ∷ []))).version (register_at (p * 4096)) ≡ 0 = sym (k.0.version (register_at (p * 4096)) (subst (λ q. q < 65536) (sym place) lt)) ∙ subst (λ q. get_or versions q 0 ≡ 0) (sym place) z in
+    let shaped = Had (past_of (ns ∷ [])) 0 1 (p * 4096) 4096 (codes "/f") (Bytes b) (not_live key (past_of (ns ∷ [])) (register_at (p * 4096)) none) k.1 in
     subst (Keeps key counter (notes + 1) versions kept) (sym n)
     (subst (λ q. Agrees key counter (notes + 1) versions kept q × IsShaped key q) (sym (past_last ns (Call 1 request (Bytes b)))) (rw (r, e) here, rw r shaped))
 
@@ -86,7 +86,7 @@ pub read_kept_told : (key : List ℕ) (counter notes : ℕ) (versions : List ℕ
 read_kept_told key counter notes versions kept None new p b request k n r values h = subst (Keeps key counter (notes + 1) versions kept) (sym n) tt
 read_kept_told key counter notes versions kept (Some ns) new p b request k n r values h =
     let place = place_is p in
-    let both = k.0.held (place_of (p * 4096)) b (subst (λ q. get_or kept q None ≡ Some b) (sym place) h) in
+    let both = k.0.held (register_at (p * 4096)) b (subst (λ q. get_or kept q None ≡ Some b) (sym place) h) in
     let here = read_here key counter notes versions kept (past_of (ns ∷ [])) 1 (codes "/f") (p * 4096) 4096 b k.0 path_is_text values both.0 in
     let shaped = Had (past_of (ns ∷ [])) 0 1 (p * 4096) 4096 (codes "/f") (Bytes b) both.1 k.1 in
     subst (Keeps key counter (notes + 1) versions kept) (sym n)
@@ -97,7 +97,7 @@ pub read_got_told : (key : List ℕ) (counter notes : ℕ) (versions : List ℕ)
     (p : ℕ) (request : Request) (since : ℕ) (answer : Answer) (reply : Reply)
     → Keeps key counter notes versions kept old → mid ≡ appended old (Got 1 since (block_name p) answer) → new ≡ appended mid (Call 1 request reply)
     → request ≡ Read (codes "/f") (p * 4096) 4096
-    → p < 65536 → get_or versions p 0 ≢ 0 → get_or kept p None ≡ None → since ≡ notes → IsReply reply → Fits key p (get_or versions p 0) answer reply
+    → p < 65536 → get_or versions p 0 ≢ 0 → get_or kept p None ≡ None → since ≡ notes → IsReply reply → IsRightReply key p (get_or versions p 0) answer reply
     → Keeps key counter (notes + 2) versions kept new
 read_got_told key counter notes versions kept None mid new p request since answer reply k m n r lt live none s value f =
     subst (Keeps key counter (notes + 2) versions kept) (sym (n ∙ ap (λ z. appended z (Call 1 request reply)) m)) tt
@@ -106,11 +106,11 @@ read_got_told key counter notes versions kept (Some ns) mid new p request since 
     let place = sym (place_is p) in
     let agrees = read_got key counter notes versions kept (past_of (ns ∷ [])) 1 (codes "/f") (p * 4096) 4096 since answer reply k.0 path_is_text value
     (subst (λ q. q < 65536) place lt) (subst (λ q. get_or versions q 0 ≢ 0) place live) (subst (λ q. get_or kept q None ≡ None) place none) s
-    (subst (λ q. Fits key q (get_or versions q 0) answer reply) place f) in
+    (subst (λ q. IsRightReply key q (get_or versions q 0) answer reply) place f) in
     let here : Agrees key counter (notes + 2) versions kept (noted (Call 1 (Read (codes "/f") (p * 4096) 4096) reply) ∷ noted (Got 1 since (block_name p) answer) ∷ past_of (ns ∷ []))
     = subst (λ q. Agrees key counter (notes + 2) versions kept (noted (Call 1 (Read (codes "/f") (p * 4096) 4096) reply) ∷ noted (Got 1 since (block_name q) answer) ∷ past_of (ns ∷ []))) (sym place) agrees in
-    let clean = k.0.clean (place_of (p * 4096)) (subst (λ q. q < 65536) place lt) (λ z. live (subst (λ q. get_or versions q 0 ≡ 0) (sym place) (k.0.version (place_of (p * 4096)) (subst (λ q. q < 65536) place lt) ∙ z))) (subst (λ q. get_or kept q None ≡ None) place none) in
-    let fits = subst (λ v. Fits key (place_of (p * 4096)) v answer reply) (k.0.version (place_of (p * 4096)) (subst (λ q. q < 65536) place lt)) (subst (λ q. Fits key q (get_or versions q 0) answer reply) place f) in
+    let clean = k.0.clean (register_at (p * 4096)) (subst (λ q. q < 65536) place lt) (λ z. live (subst (λ q. get_or versions q 0 ≡ 0) (sym place) (k.0.version (register_at (p * 4096)) (subst (λ q. q < 65536) place lt) ∙ z))) (subst (λ q. get_or kept q None ≡ None) place none) in
+    let fits = subst (λ v. IsRightReply key (register_at (p * 4096)) v answer reply) (k.0.version (register_at (p * 4096)) (subst (λ q. q < 65536) place lt)) (subst (λ q. IsRightReply key q (get_or versions q 0) answer reply) place f) in
     let shaped = Fetched (past_of (ns ∷ [])) 0 0 1 since (p * 4096) 4096 (codes "/f") reply answer (omega (arith, s, k.0.notes)) fits clean k.1 in
     let shaped' : IsShaped key (noted (Call 1 request reply) ∷ noted (Got 1 since (block_name p) answer) ∷ past_of (ns ∷ []))
     = subst (λ q. IsShaped key (noted (Call 1 q reply) ∷ noted (Got 1 since (block_name p) answer) ∷ past_of (ns ∷ []))) (sym r) (subst (λ z. IsShaped key (noted (Call 1 (Read (codes "/f") (p * 4096) 4096) reply) ∷ noted (Got 1 since (block_name z) answer) ∷ past_of (ns ∷ []))) (sym place) shaped) in
@@ -124,7 +124,7 @@ drop_nothing (suc m) = refl
 
 -- before the first note
 pub keeps_first : (key : List ℕ) (counter notes : ℕ) (versions : List ℕ) (kept : List (Option (List ℕ))) (old : Option (List Note))
-    → IsFresh old → counter ≡ 0 → notes ≡ 0 → ((p : ℕ) → get_or versions p 0 ≡ 0) → ((p : ℕ) → get_or kept p None ≡ None)
+    → IsEmptyLog old → counter ≡ 0 → notes ≡ 0 → ((p : ℕ) → get_or versions p 0 ≡ 0) → ((p : ℕ) → get_or kept p None ≡ None)
     → Keeps key counter notes versions kept old
 keeps_first key counter notes versions kept None e c n v k = tt
 keeps_first key counter notes versions kept (Some ns) e c n v k = subst (λ z. Keeps key counter notes versions kept (Some z)) (sym e) (
@@ -157,7 +157,7 @@ pub called_judged : (key : List ℕ) (old new : Option (List Note)) (p : ℕ) (b
 called_judged key None new p b request j e r values = subst (IsJudged key) (sym e) tt
 called_judged key (Some ns) new p b request j e r values =
     subst (IsJudged key) (sym e)
-    (subst (λ q. Bad key q ⊎ Legal key q) (sym (past_last ns (Call 1 request Done)))
+    (subst (λ q. BadRegisters key q ⊎ LegalRegisters key q) (sym (past_last ns (Call 1 request Done)))
     (rw r (judged_call key 1 (codes "/f") (p * 4096) b (past_of (ns ∷ [])) (path_is_text, values) j)))
 
 -- a get of a clean place leaves the session bad or legal
@@ -169,7 +169,7 @@ got_judged key counter notes versions kept (Some ns) new p since answer k e lt l
     let past = past_of (ns ∷ []) in
     let clean = k.0.clean p lt (λ z. live (k.0.version p lt ∙ z)) none in
     subst (IsJudged key) (sym e)
-    (subst (λ q. Bad key q ⊎ Legal key q) (sym (past_last ns (Got 1 since (block_name p) answer)))
+    (subst (λ q. BadRegisters key q ⊎ LegalRegisters key q) (sym (past_last ns (Got 1 since (block_name p) answer)))
     (judged_more (registers key) (register_rules key) past (noted (Got 1 since (block_name p) answer)) (got_lawful key 1 since p answer past (s ∙ k.0.notes) clean) k.0.judged))
 
 -- what a ready session says of its notes
@@ -200,7 +200,7 @@ had_ready key s t old mid new p b request r m e q lt same noted values found = r
 pub got_ready : (key : List ℕ) (s t : Session) (old mid new : Option (List Note)) (p since : ℕ) (answer : Answer) (reply : Reply) (request : Request)
     → IsReady key s old → mid ≡ appended old (Got 1 since (block_name p) answer) → new ≡ appended mid (Call 1 request reply) → request ≡ read_of p → p < 65536
     → t.places ≡ s.places → t.noted ≡ s.noted + 2 → get_or s.places.versions.items p 0 ≢ 0 → get_or s.places.kept.items p None ≡ None → since ≡ s.noted
-    → IsReply reply → Fits key p (get_or s.places.versions.items p 0) answer reply
+    → IsReply reply → IsRightReply key p (get_or s.places.versions.items p 0) answer reply
     → IsReady key t new
 got_ready key s t old mid new p since answer reply request r m e q lt same noted live none i value f = record {
   versions = ap (λ a. length a.versions.items) same ∙ r.versions;
@@ -211,7 +211,7 @@ got_ready key s t old mid new p since answer reply request r m e q lt same noted
 -- after a write
 pub wrote_ready : (key : List ℕ) (s t : Session) (old mid new : Option (List Note)) (p : ℕ) (b block bytes : List ℕ) (since : ℕ) (ok : Bool) (held : Option (List ℕ)) (request : Request)
     → IsReady key s old → mid ≡ appended old (Call 1 request Done) → new ≡ appended mid (Put 1 since (block_name p) bytes ok)
-    → request ≡ Write (codes "/f") (p * 4096) block → block ≡ filled b → bytes ≡ record_of key 2 p (s.places.counter + 1) block → p < 65536
+    → request ≡ Write (codes "/f") (p * 4096) block → block ≡ filled_block b → bytes ≡ record_of key 2 p (s.places.counter + 1) block → p < 65536
     → length block ≡ 4096 → AreBytes b → since ≡ s.noted + 1 → held ≡ cond ok None (Some (take 4096 bytes))
     → t.places.counter ≡ s.places.counter + 1 → t.places.versions.items ≡ set s.places.versions.items p (s.places.counter + 1) → t.places.kept.items ≡ set s.places.kept.items p held
     → t.noted ≡ s.noted + 2
@@ -228,7 +228,7 @@ wrote_ready key s t old mid new p b block bytes since ok held request r m e q f 
 -- the notes of a write leave the session bad or legal
 pub wrote_judged : (key : List ℕ) (s : Session) (old mid new : Option (List Note)) (p : ℕ) (b block bytes : List ℕ) (since : ℕ) (ok : Bool) (request : Request)
     → IsReady key s old → mid ≡ appended old (Call 1 request Done) → new ≡ appended mid (Put 1 since (block_name p) bytes ok)
-    → request ≡ Write (codes "/f") (p * 4096) block → block ≡ filled b → bytes ≡ record_of key 2 p (s.places.counter + 1) block → p < 65536
+    → request ≡ Write (codes "/f") (p * 4096) block → block ≡ filled_block b → bytes ≡ record_of key 2 p (s.places.counter + 1) block → p < 65536
     → length block ≡ 4096 → AreBytes b → since ≡ s.noted + 1 → IsJudged key new
 wrote_judged key s old mid new p b block bytes since ok request r m e q f w lt len values i =
     keeps_judged key (s.places.counter + 1) (s.noted + 2) (set s.places.versions.items p (s.places.counter + 1)) (set s.places.kept.items p (cond ok None (Some block))) new

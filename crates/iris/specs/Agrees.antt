@@ -3,7 +3,7 @@ use Rattle.std.specs.Prelude.{ℕ, ◌<◌, ◌≡◌, ◌≢◌, ◌⊎◌, Lis
 use Rattle.iris_name.specs.declared.note.Note.{Note}
 use Rattle.iris_name.specs.History.{Past, past_of}
 use Rattle.iris_history.specs.Kept.{table_of}
-use Rattle.iris.specs.Registers.{registers, Clean, Legal, Bad}
+use Rattle.iris.specs.Registers.{registers, Clean, LegalRegisters, BadRegisters}
 use Rattle.iris.specs.Shape.{IsShaped}
 
 -- The counter, the number of notes, the versions, and the blocks whose put failed, agree with the past.
@@ -14,7 +14,7 @@ pub record Agrees (key : List ℕ) (counter noted : ℕ) (versions : List ℕ) (
   pub whole : (m p : ℕ) → length ((table_of (registers key) (drop m past)).block p) ≡ 4096
   pub held : (p : ℕ) (b : List ℕ) → slice_index_or kept p None ≡ Some b → (b ≡ (table_of (registers key) past).block p) × (Clean key past p → ⊥)
   pub clean : (p : ℕ) → p < 65536 → (table_of (registers key) past).version p ≢ 0 → slice_index_or kept p None ≡ None → Clean key past p
-  pub judged : Bad key past ⊎ Legal key past
+  pub judged : BadRegisters key past ⊎ LegalRegisters key past
 
 -- what the session keeps agrees with its notes, where these are told, and they have the shape that they should
 abbrev pub Keeps : List ℕ → ℕ → ℕ → List ℕ → List (Option (List ℕ)) → Option (List Note) → Type 0

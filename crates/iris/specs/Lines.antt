@@ -10,16 +10,16 @@ use Rattle.iris.specs.declared.line.LineError.{LineError}
 use Rattle.iris.specs.declared.line.LineError.TheVariants.{NotRequest, NoMemory}
 
 -- the word is the number of a register
-abbrev pub IsPlace : List ℕ → ℕ → Type 0
-IsPlace word place = IsNumber word place × (place < 65536)
+abbrev pub IsRegisterNumber : List ℕ → ℕ → Type 0
+IsRegisterNumber word place = IsNumber word place × (place < 65536)
 
 -- the bytes, filled up with zeros to a block
-abbrev pub filled : List ℕ → List ℕ
-filled bytes = bytes ++ replicate (4096 - length bytes) 0
+abbrev pub filled_block : List ℕ → List ℕ
+filled_block bytes = bytes ++ replicate (4096 - length bytes) 0
 
 -- the request that writes these bytes, filled up, to a register of the one file
 abbrev pub write_of : ℕ → List ℕ → Request
-write_of place bytes = Write (codes "/f") (place * 4096) (filled bytes)
+write_of place bytes = Write (codes "/f") (place * 4096) (filled_block bytes)
 
 -- the request that reads a register whole
 abbrev pub read_of : ℕ → Request
@@ -30,7 +30,7 @@ pub record IsWriteLine (line : List ℕ) (place : ℕ) (bytes : List ℕ) : Type
   pub word : List ℕ
   pub digits : List ℕ
   pub text : line ≡ codes "write " ++ (word ++ (codes " " ++ digits))
-  pub is_place : IsPlace word place
+  pub is_place : IsRegisterNumber word place
   pub is_hex : IsHexOf digits bytes
   pub fits : length bytes ≤ 4096
 
@@ -38,7 +38,7 @@ pub record IsWriteLine (line : List ℕ) (place : ℕ) (bytes : List ℕ) : Type
 pub record IsReadLine (line : List ℕ) (place : ℕ) : Type 0 where
   pub word : List ℕ
   pub text : line ≡ codes "read " ++ word
-  pub is_place : IsPlace word place
+  pub is_place : IsRegisterNumber word place
 
 -- the line spells the request
 pub data Spells (line : List ℕ) : Request → Type 0 where
@@ -78,6 +78,6 @@ IsInRange (line.Write place bytes) = (place < 65536) × (1 ≤ length bytes) × 
 IsInRange (line.Read place) = place < 65536
 
 -- why lines aren't all read: the first that spells no request, or want of memory
-abbrev pub IsFault : List (List ℕ) → LineError → Type 0
-IsFault lines (NotRequest n) = IsFirstBad lines n
-IsFault lines NoMemory = Unit {0}
+abbrev pub IsLineFault : List (List ℕ) → LineError → Type 0
+IsLineFault lines (NotRequest n) = IsFirstBad lines n
+IsLineFault lines NoMemory = Unit {0}

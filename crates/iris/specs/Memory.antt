@@ -25,8 +25,8 @@ abbrev pub counted : ℕ → ℕ
 counted n = min (n + 1) (2 ^ 64 - 1)
 
 -- whether the next call is one that is to fail
-abbrev pub fails_next : Tally → Bool
-fails_next tally = list_any (λ n. n == counted tally.calls) tally.failing
+abbrev pub tally_fails_next : Tally → Bool
+tally_fails_next tally = list_any (λ n. n == counted tally.calls) tally.failing
 
 -- the tally after a call that failed or not
 abbrev pub tallied : Bool → Tally → Tally
@@ -34,15 +34,15 @@ tallied failed tally = record tally { calls = counted tally.calls; faults = (if 
 
 -- how many bytes the next read into a slice of this length takes
 abbrev pub taken_next : Tape → ℕ → ℕ
-taken_next tape room = if fails_next tape.tally then 0 else min room (min tape.most (length tape.left))
+taken_next tape room = if tally_fails_next tape.tally then 0 else min room (min tape.most (length tape.left))
 
 -- the tape after the next read into a slice of this length
 abbrev pub after_read : Tape → ℕ → Tape
-after_read tape room = record tape { left = drop (taken_next tape room) tape.left; tally = tallied (fails_next tape.tally) tape.tally }
+after_read tape room = record tape { left = drop (taken_next tape room) tape.left; tally = tallied (tally_fails_next tape.tally) tape.tally }
 
 -- whether the next write fails: it is to fail, or doesn't fit what is left
 abbrev pub write_fails : Sheet → List ℕ → Bool
-write_fails sheet piece = fails_next sheet.tally || nat_lt sheet.room (length sheet.written + length piece)
+write_fails sheet piece = tally_fails_next sheet.tally || nat_lt sheet.room (length sheet.written + length piece)
 
 -- the sheet after the next write; one that fails writes nothing
 abbrev pub after_write : Sheet → List ℕ → Sheet

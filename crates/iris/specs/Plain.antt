@@ -16,7 +16,7 @@ use Rattle.iris.specs.declared.reading.ReadError.{ReadError}
 use Rattle.iris.specs.declared.top.Stop.TheVariants.{BadWords, BadLine, Unread, Unwritten, TooLong, NoMemory}
 use Rattle.iris.specs.Notes.{printed}
 use Rattle.iris.specs.Outside.{IsFault}
-use Rattle.iris.specs.Reading.{HasMoreThan, IsWithin}
+use Rattle.iris.specs.Reading.{HasMoreThan, IsAtMostLeft}
 use Rattle.iris.specs.Run.{stop_of_read, status_of, line_of}
 use Rattle.iris.specs.Words.{IsCommand}
 
@@ -55,12 +55,12 @@ pub record Served (words : List (List ℕ)) (left left_now : Option (List ℕ)) 
   pub spoken : ArePlain words master
   pub calls : List (ℕ × Request)
   pub asked : WasAsked left left_now calls
-  pub limit : IsWithin left 16777216
+  pub limit : IsAtMostLeft left 16777216
   pub right : AreRight (order_key master) empty_table calls replies
 
 -- what was written is the printing of all replies
-abbrev pub IsPrinted : List (List ℕ) → Option (List ℕ) → Option (List ℕ) → Option (List ℕ) → Option (List ℕ) → Type 0
-IsPrinted words left left_now written written_now =
+abbrev pub IsPlainPrinted : List (List ℕ) → Option (List ℕ) → Option (List ℕ) → Option (List ℕ) → Option (List ℕ) → Type 0
+IsPlainPrinted words left left_now written written_now =
     (replies : List (ℕ × Reply)) × Served words left left_now replies × (written_now ≡ extended written (printed_to 16 replies))
 
 -- what was written is the front of that printing
@@ -89,22 +89,22 @@ ended_as (Err (FarClient line)) = (7, line)
 
 -- the words are right, and the script is within its limit where it is told
 abbrev pub IsBegun : List (List ℕ) → Option (List ℕ) → Type 0
-IsBegun words left = ((master : List ℕ) × ArePlain words master) × IsWithin left 16777216
+IsBegun words left = ((master : List ℕ) × ArePlain words master) × IsAtMostLeft left 16777216
 
 -- a run that ended so
-abbrev pub IsEnd : (words : List (List ℕ)) (left left_now : Option (List ℕ)) (unread unread_now : ℕ) (written written_now : Option (List ℕ)) (unwritten unwritten_now : ℕ) → Result (Unit {0}) Halt → Type 0
-IsEnd words left left_now unread unread_now written written_now unwritten unwritten_now (Ok u) = IsPrinted words left left_now written written_now
-IsEnd words left left_now unread unread_now written written_now unwritten unwritten_now (Err (Stopped Unwritten)) =
+abbrev pub IsPlainEnd : (words : List (List ℕ)) (left left_now : Option (List ℕ)) (unread unread_now : ℕ) (written written_now : Option (List ℕ)) (unwritten unwritten_now : ℕ) → Result (Unit {0}) Halt → Type 0
+IsPlainEnd words left left_now unread unread_now written written_now unwritten unwritten_now (Ok u) = IsPlainPrinted words left left_now written written_now
+IsPlainEnd words left left_now unread unread_now written written_now unwritten unwritten_now (Err (Stopped Unwritten)) =
     IsCutShort words left left_now written written_now × IsFault unwritten unwritten_now
-IsEnd words left left_now unread unread_now written written_now unwritten unwritten_now (Err (Stopped BadWords)) =
+IsPlainEnd words left left_now unread unread_now written written_now unwritten unwritten_now (Err (Stopped BadWords)) =
     AreNotPlain words × (written_now ≡ written)
-IsEnd words left left_now unread unread_now written written_now unwritten unwritten_now (Err (Stopped (BadLine n))) =
+IsPlainEnd words left left_now unread unread_now written written_now unwritten unwritten_now (Err (Stopped (BadLine n))) =
     IsBegun words left × FirstLine IsNoRequest left n × (n ≢ 0) × (written_now ≡ written)
-IsEnd words left left_now unread unread_now written written_now unwritten unwritten_now (Err (FarClient n)) =
+IsPlainEnd words left left_now unread unread_now written written_now unwritten unwritten_now (Err (FarClient n)) =
     IsBegun words left × FirstLine NamesFarClient left n × (n ≢ 0) × (written_now ≡ written)
-IsEnd words left left_now unread unread_now written written_now unwritten unwritten_now (Err (Stopped Unread)) =
+IsPlainEnd words left left_now unread unread_now written written_now unwritten unwritten_now (Err (Stopped Unread)) =
     ((master : List ℕ) × ArePlain words master) × IsFault unread unread_now × (written_now ≡ written)
-IsEnd words left left_now unread unread_now written written_now unwritten unwritten_now (Err (Stopped TooLong)) =
+IsPlainEnd words left left_now unread unread_now written written_now unwritten unwritten_now (Err (Stopped TooLong)) =
     ((master : List ℕ) × ArePlain words master) × HasMoreThan left 16777216 × (written_now ≡ written)
-IsEnd words left left_now unread unread_now written written_now unwritten unwritten_now (Err (Stopped NoMemory)) =
+IsPlainEnd words left left_now unread unread_now written written_now unwritten unwritten_now (Err (Stopped NoMemory)) =
     ((master : List ℕ) × ArePlain words master) × (written_now ≡ written)

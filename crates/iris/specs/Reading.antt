@@ -15,9 +15,9 @@ HasMoreThan None n = Unit {0}
 HasMoreThan (Some left) n = n < length left
 
 -- at most that many bytes are left, where that is told
-abbrev pub IsWithin : Option (List ℕ) → ℕ → Type 0
-IsWithin None n = Unit {0}
-IsWithin (Some left) n = length left ≤ n
+abbrev pub IsAtMostLeft : Option (List ℕ) → ℕ → Type 0
+IsAtMostLeft None n = Unit {0}
+IsAtMostLeft (Some left) n = length left ≤ n
 
 -- when a reading of at most that many bytes may end by an error, by the bytes left and the faults at its start and its end
 abbrev pub MayEnd : Option (List ℕ) → ℕ → ℕ → ℕ → ReadError → Type 0

@@ -23,47 +23,47 @@ unfoldable pub zeros : List ℕ
 zeros = replicate 4096 0
 
 -- before the first write
-abbrev pub fresh : Registers
-fresh = record { counter = 0; version = λ p. 0; block = λ p. zeros }
+abbrev pub fresh_registers : Registers
+fresh_registers = record { counter = 0; version = λ p. 0; block = λ p. zeros }
 
 -- a write raises the counter, and gives its place that version and the block
-abbrev pub written : Registers → ℕ → List ℕ → Registers
-written t p bytes = record {
+abbrev pub register_written : Registers → ℕ → List ℕ → Registers
+register_written t p bytes = record {
   counter = t.counter + 1;
   version = λ q. if q == p then t.counter + 1 else t.version q;
   block = λ q. if q == p then bytes else t.block q;
 }
 
 -- the place at an offset
-abbrev pub place_of : ℕ → ℕ
-place_of offset = offset / 4096
+abbrev pub register_at : ℕ → ℕ
+register_at offset = offset / 4096
 
 -- the registers after a request
-abbrev pub stepped : Registers → Request → Registers
-stepped t (Write path offset bytes) = written t (place_of offset) bytes
-stepped t _ = t
+abbrev pub stepped_registers : Registers → Request → Registers
+stepped_registers t (Write path offset bytes) = register_written t (register_at offset) bytes
+stepped_registers t _ = t
 
 -- the version and the block of a place that was written; nothing else is live
-abbrev pub shown : Registers → Name → Option (ℕ × List ℕ)
-shown t (Block f p) = if (f.0 == 2) && not (t.version p == 0) then Some (t.version p, t.block p) else None
-shown t (Entry i) = None
-shown t (Part f l i) = None
+abbrev pub shown_register : Registers → Name → Option (ℕ × List ℕ)
+shown_register t (Block f p) = if (f.0 == 2) && not (t.version p == 0) then Some (t.version p, t.block p) else None
+shown_register t (Entry i) = None
+shown_register t (Part f l i) = None
 
 -- the record of a block
-abbrev pub spelled : List ℕ → Name → ℕ × List ℕ → List ℕ
-spelled key (Block f p) u = record_of key f.0 p u.0 u.1
-spelled key (Entry i) u = []
-spelled key (Part f l i) u = []
+abbrev pub spelled_register : List ℕ → Name → ℕ × List ℕ → List ℕ
+spelled_register key (Block f p) u = record_of key f.0 p u.0 u.1
+spelled_register key (Entry i) u = []
+spelled_register key (Part f l i) u = []
 
 -- the registers as a table whose blocks stand in the store
 abbrev pub registers : List ℕ → Kept
 registers key = record {
   Table = Registers;
   Unfolded = ℕ × List ℕ;
-  start = fresh;
-  step = stepped;
-  shown = shown;
-  spelled = spelled key;
+  start = fresh_registers;
+  step = stepped_registers;
+  shown = shown_register;
+  spelled = spelled_register key;
   version = λ u. u.0;
   key = key;
 }
@@ -71,29 +71,29 @@ registers key = record {
 -- a write is done, and a read gives the place's block
 abbrev pub Replies : Registers → Request → Reply → Type 0
 Replies t (Write path offset bytes) Done = Unit {0}
-Replies t (Read path offset len) (Bytes bytes) = bytes ≡ t.block (place_of offset)
+Replies t (Read path offset len) (Bytes bytes) = bytes ≡ t.block (register_at offset)
 Replies t _ _ = ⊥
 
 -- a read reaches its place's block, where that was written
-abbrev pub Reaches : Registers → Request → Name → Type 0
-Reaches t (Read path offset len) (Block f p) = (f.0 ≡ 2) × (p ≡ place_of offset) × (t.version p ≢ 0)
-Reaches t _ _ = ⊥
+abbrev pub RegisterReaches : Registers → Request → Name → Type 0
+RegisterReaches t (Read path offset len) (Block f p) = (f.0 ≡ 2) × (p ≡ register_at offset) × (t.version p ≢ 0)
+RegisterReaches t _ _ = ⊥
 
 -- what is asked of the registers' calls; none of them waits for another's records
 abbrev pub register_rules : List ℕ → Rules
 register_rules key = record {
   replies = λ past. Replies (table_of (registers key) past);
-  reaches = λ past. Reaches (table_of (registers key) past);
+  reaches = λ past. RegisterReaches (table_of (registers key) past);
   waits = λ past request. ⊥;
 }
 
 -- a history of the registers under this block key is legal
-abbrev pub Legal : List ℕ → Past → Type 0
-Legal key past = IsLegal (registers key) (register_rules key) past
+abbrev pub LegalRegisters : List ℕ → Past → Type 0
+LegalRegisters key past = IsLegal (registers key) (register_rules key) past
 
 -- it holds a forgery
-abbrev pub Bad : List ℕ → Past → Type 0
-Bad key past = IsBad (registers key) (register_rules key) past
+abbrev pub BadRegisters : List ℕ → Past → Type 0
+BadRegisters key past = IsBad (registers key) (register_rules key) past
 
 -- the name of a place's block
 abbrev pub block_name : ℕ → Name

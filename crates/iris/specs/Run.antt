@@ -14,7 +14,7 @@ use Rattle.iris.specs.declared.top.Stop.{Stop}
 use Rattle.iris.specs.declared.top.Stop.TheVariants.{BadWords, BadLine, Unread, Unwritten, TooLong, NoMemory}
 use Rattle.iris.specs.Lines.{IsFirstBad, AllSpell}
 use Rattle.iris.specs.Outside.{IsFault}
-use Rattle.iris.specs.Reading.{HasMoreThan, IsWithin}
+use Rattle.iris.specs.Reading.{HasMoreThan, IsAtMostLeft}
 use Rattle.iris.specs.Said.{Said, silent}
 use Rattle.iris.specs.Session.{Serves, Stops, IsJudged, HasShape}
 use Rattle.iris.specs.Top.{WasRead, HasKey, HasNoKey}
@@ -56,7 +56,7 @@ pub record Ran (words : List (List ℕ)) (left left_now : Option (List ℕ)) (tr
   pub spoken : AreWords words master
   pub requests : List Request
   pub read : WasRead left left_now requests
-  pub limit : IsWithin left 16777216
+  pub limit : IsAtMostLeft left 16777216
   pub serves : Serves requests notes notes_now traffic traffic_now failed failed_now silent said
   pub judged : IsJudged (block_key master) notes_now
   pub shaped : HasShape (block_key master) notes_now
@@ -84,7 +84,7 @@ IsEnd words left left_now unread unread_now written written_now unwritten unwrit
 IsEnd words left left_now unread unread_now written written_now unwritten unwritten_now traffic traffic_now failed failed_now notes notes_now (Err BadWords) =
     HasNoKey words × IsUntouched written written_now traffic traffic_now notes notes_now
 IsEnd words left left_now unread unread_now written written_now unwritten unwritten_now traffic traffic_now failed failed_now notes notes_now (Err (BadLine n)) =
-    HasKey words × ((bytes : List ℕ) → left ≡ Some bytes → IsFirstBad (lines_of bytes) n) × (n ≢ 0) × IsWithin left 16777216 × IsUntouched written written_now traffic traffic_now notes notes_now
+    HasKey words × ((bytes : List ℕ) → left ≡ Some bytes → IsFirstBad (lines_of bytes) n) × (n ≢ 0) × IsAtMostLeft left 16777216 × IsUntouched written written_now traffic traffic_now notes notes_now
 IsEnd words left left_now unread unread_now written written_now unwritten unwritten_now traffic traffic_now failed failed_now notes notes_now (Err Unread) =
     HasKey words × IsFault unread unread_now × IsUntouched written written_now traffic traffic_now notes notes_now
 IsEnd words left left_now unread unread_now written written_now unwritten unwritten_now traffic traffic_now failed failed_now notes notes_now (Err TooLong) =

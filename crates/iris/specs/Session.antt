@@ -9,7 +9,7 @@ use Rattle.iris.specs.Agrees.{Keeps}
 use Rattle.iris.specs.declared.session.Session.{Session}
 use Rattle.iris.specs.Notes.{requests_of, replies_of, transfers_of, AllBy, AnyGetFailed}
 use Rattle.iris.specs.Outside.{IsFault}
-use Rattle.iris.specs.Registers.{Bad, Legal}
+use Rattle.iris.specs.Registers.{BadRegisters, LegalRegisters}
 use Rattle.iris.specs.Said.{Said, saying_all}
 use Rattle.iris.specs.Shape.{IsShaped}
 
@@ -28,7 +28,7 @@ pub record Serves (asked : List Request) (old new : Option (List Note)) (before 
 -- the session is bad or legal, where it is told
 abbrev pub IsJudged : List ℕ → Option (List Note) → Type 0
 IsJudged key None = Unit {0}
-IsJudged key (Some notes) = Bad key (past_of (notes ∷ [])) ⊎ Legal key (past_of (notes ∷ []))
+IsJudged key (Some notes) = BadRegisters key (past_of (notes ∷ [])) ⊎ LegalRegisters key (past_of (notes ∷ []))
 
 -- the session has the shape that it should, where it is told
 abbrev pub HasShape : List ℕ → Option (List Note) → Type 0

@@ -8,14 +8,14 @@ use Rattle.iris_name.specs.Hmac.{block_key}
 use Rattle.iris_history.specs.Answers.{last_of, IsOther}
 use Rattle.iris_script.specs.Cuts.{lines_of}
 use Rattle.iris.specs.Lines.{AllSpell, IsFirstBad}
-use Rattle.iris.specs.Registers.{Bad, Legal}
+use Rattle.iris.specs.Registers.{BadRegisters, LegalRegisters}
 use Rattle.iris.specs.Shape.{IsShaped}
 use Rattle.iris.specs.Words.{AreWords}
 
 -- the log has no notes, where it tells
-abbrev pub IsFresh : Option (List Note) → Type 0
-IsFresh None = Unit {0}
-IsFresh (Some notes) = notes ≡ []
+abbrev pub IsEmptyLog : Option (List Note) → Type 0
+IsEmptyLog None = Unit {0}
+IsEmptyLog (Some notes) = notes ≡ []
 
 -- all lines were served and their replies printed: status 0 or 1
 abbrev pub IsPrinted : ℕ → Type 0
@@ -50,7 +50,7 @@ AreFirst (Some bytes) first = (first ≡ []) ⊎ ((requests : List Request) × A
 -- under the key of these words the session's history is bad, or legal
 abbrev pub IsBadOrLegal : List (List ℕ) → List Note → Type 0
 IsBadOrLegal words notes = (master : List ℕ) → AreWords words master
-    → Bad (block_key master) (past_of (notes ∷ [])) ⊎ Legal (block_key master) (past_of (notes ∷ []))
+    → BadRegisters (block_key master) (past_of (notes ∷ [])) ⊎ LegalRegisters (block_key master) (past_of (notes ∷ []))
 
 -- under the key of these words the session makes exactly the transfers that it should
 abbrev pub HasItsTransfers : List (List ℕ) → List Note → Type 0
@@ -94,4 +94,4 @@ AnyOther (x ∷ past) = IsOtherGet x.note past ⊎ AnyOther past
 
 -- where no get gave something other: all done and nothing refused, or want of memory, or a bad history
 abbrev pub IsDoneIfHonest : List ℕ → ℕ → List Note → Type 0
-IsDoneIfHonest master status notes = ¬ AnyOther (past_of (notes ∷ [])) → (status ≡ 0) ⊎ (status ≡ 8) ⊎ Bad (block_key master) (past_of (notes ∷ []))
+IsDoneIfHonest master status notes = ¬ AnyOther (past_of (notes ∷ [])) → (status ≡ 0) ⊎ (status ≡ 8) ⊎ BadRegisters (block_key master) (past_of (notes ∷ []))

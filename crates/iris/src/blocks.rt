@@ -3,8 +3,8 @@
 ghost use Rattle.std.specs.Prelude.{◌≡◌, ◌*◌, ◌<◌, ◌≤◌, IfOk, length, take, None, Some, if◌then◌else◌, codes};
 ghost use Rattle.iris_name.specs.Hmac.{record_of};
 ghost use Rattle.iris_history.specs.Values.{AreBytes, IsRequest, IsReply};
-ghost use Rattle.iris.specs.Answers.{Fits};
-ghost use Rattle.iris.specs.Lines.{filled, read_of};
+ghost use Rattle.iris.specs.Answers.{IsRightReply};
+ghost use Rattle.iris.specs.Lines.{filled_block, read_of};
 ghost use Rattle.iris.specs.Registers.{block_name as name_of, zeros};
 
 use iris_mac::{Keys, passes, tag};
@@ -26,7 +26,7 @@ pub fn block_name(place: u32) -> Name
 /// The bytes, filled up with zeros to a block. Whole blocks aren't copied.
 pub fn fill(bytes: Bytes) -> Result<Bytes, NoMemory>
     requires { length bytes ≤ PAGE_LEN }
-    ensures filled { IfOk result (λ block. block ≡ filled bytes) }
+    ensures filled { IfOk result (λ block. block ≡ filled_block bytes) }
     ensures len { IfOk result (λ block. length block ≡ PAGE_LEN) }
 {
     let mut block = bytes.into_vec();
@@ -118,7 +118,7 @@ pub fn judge(
     version: u64,
     answer: &Answer,
 ) -> Result<Reply, NoMemory>
-    ensures fits { IfOk result (λ reply. Fits keys.now.block place version answer.now reply) }
+    ensures fits { IfOk result (λ reply. IsRightReply keys.now.block place version answer.now reply) }
     ensures value { IfOk result IsReply }
 {
     let name = block_name(place);

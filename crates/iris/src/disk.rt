@@ -4,7 +4,7 @@ ghost use Rattle.std.specs.Prelude.{◌≡◌, ◌≢◌, ◌++◌, None, IfOk, 
 ghost use Rattle.std.specs.IoError.{error_kind};
 ghost use Rattle.std.specs.declared.io.ErrorKind.TheVariants.{OutOfMemory};
 ghost use Rattle.iris_name.specs.NameText.{name_text};
-ghost use Rattle.iris_store.specs.Traffic.{IsCaused, IsShort};
+ghost use Rattle.iris_store.specs.Traffic.{IsCaused, IsWithinLimit};
 
 use crate::outside::{Sink, Source};
 use iris_name::{Bytes, Failed, Name, Text};
@@ -36,7 +36,7 @@ fn store_error(error: &io::Error) -> StoreError
 
 // The first bytes of a file, or none where it is absent.
 fn read_record<R: Files>(alloc: Global, rt: &R, path: &str) -> Result<Option<Bytes>, StoreError>
-    ensures { IsShort result }
+    ensures { IsWithinLimit result }
 {
     let file = match fs::File::open(rt, path) {
         Ok(file) => file,

@@ -3,7 +3,7 @@
 ghost use Rattle.std.specs.Prelude.{◌≡◌, ◌≤◌, ◌++◌, ℕ, List, IfOk, IfErr, IfSome, IfNone, codes, map, length, vec_len};
 ghost use Rattle.std.specs.List.{All};
 ghost use Rattle.iris_script.specs.Cuts.{lines_of};
-ghost use Rattle.iris.specs.Lines.{AllSpell, IsFault, IsInRange, IsPlace, IsWriteLine, Spells, SpellsNone, request_of};
+ghost use Rattle.iris.specs.Lines.{AllSpell, IsLineFault, IsInRange, IsRegisterNumber, IsWriteLine, Spells, SpellsNone, request_of};
 
 use iris_name::{Bytes, NoMemory, PAGE_LEN};
 use iris_script::{cut_at, first_line, read_hex, read_number};
@@ -52,8 +52,8 @@ impl<T: Drop> From<AllocFailed<T>> for LineError {
 }
 
 fn read_place(word: &[u8]) -> Option<u32>
-    ensures some { IfSome result (λ place. IsPlace word.now place) }
-    ensures none { IfNone result ((place : ℕ) → IsPlace word.now place → ⊥) }
+    ensures some { IfSome result (λ place. IsRegisterNumber word.now place) }
+    ensures none { IfNone result ((place : ℕ) → IsRegisterNumber word.now place → ⊥) }
 {
     let Some(number) = read_number(word) else {
         return None;
@@ -121,7 +121,7 @@ pub fn read_lines(alloc: Global, script: &[u8]) -> Result<Vec<Line>, LineError>
     ensures lines { IfOk result (λ lines. AllSpell (lines_of script.now) (map request_of lines.items)) }
     ensures range { IfOk result (λ lines. All IsInRange lines.items) }
     ensures count { IfOk result (λ lines. vec_len lines ≤ length script.now) }
-    ensures bad { IfErr result (IsFault (lines_of script.now)) }
+    ensures bad { IfErr result (IsLineFault (lines_of script.now)) }
 {
     let mut lines = Vec::new(alloc);
     let mut rest = script;

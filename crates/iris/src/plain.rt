@@ -8,7 +8,7 @@ ghost use Rattle.iris_table.specs.Rows.{empty_table};
 ghost use Rattle.iris.specs.Commands.{IsStatus};
 ghost use Rattle.iris.specs.Notes.{printed};
 ghost use Rattle.iris.specs.Outside.{IsFault};
-ghost use Rattle.iris.specs.Plain.{ArePlain, AreNotPlain, AreRight, IsEnd, IsPrinted, IsCutShort, FirstLine, said_to, printed_to, ended_as};
+ghost use Rattle.iris.specs.Plain.{ArePlain, AreNotPlain, AreRight, IsPlainEnd, IsPlainPrinted, IsCutShort, FirstLine, said_to, printed_to, ended_as};
 ghost use Rattle.iris.specs.Reading.{HasMoreThan};
 
 use crate::outside::{Sink, Source};
@@ -115,7 +115,7 @@ fn run<R: Source, W: Sink>(
     source: &mut R,
     out: &mut W,
 ) -> Result<(), Halt>
-    ensures { IsEnd (map (λ w. w.now) words.now) (R.left source.old) (R.left source.new) (R.faults source.old) (R.faults source.new) (W.written out.old) (W.written out.new) (W.faults out.old) (W.faults out.new) result }
+    ensures { IsPlainEnd (map (λ w. w.now) words.now) (R.left source.old) (R.left source.new) (R.faults source.old) (R.faults source.new) (W.written out.old) (W.written out.new) (W.faults out.old) (W.faults out.new) result }
 {
     let Some(master) = read_command("plain", words) else {
         return Err(Halt::Stopped(Stop::BadWords));
@@ -155,7 +155,7 @@ pub fn plain_run<R: Source, W: Sink>(
     out: &mut W,
 ) -> (u8, u64)
     // The script was read to its end, each reply is the table's at its place, and what was written is their printing.
-    ensures printed { result.0 ≡ 0 → IsPrinted (map (λ w. w.now) words.now) (R.left script.old) (R.left script.new) (W.written out.old) (W.written out.new) }
+    ensures printed { result.0 ≡ 0 → IsPlainPrinted (map (λ w. w.now) words.now) (R.left script.old) (R.left script.new) (W.written out.old) (W.written out.new) }
     ensures cut { result.0 ≡ 4 → IsCutShort (map (λ w. w.now) words.now) (R.left script.old) (R.left script.new) (W.written out.old) (W.written out.new) }
     ensures silent { result.0 ≢ 0 → result.0 ≢ 4 → W.written out.new ≡ W.written out.old }
 

@@ -10,7 +10,7 @@ ghost use Rattle.iris.specs.Lines.{IsInRange, request_of, write_of, read_of};
 ghost use Rattle.iris.specs.Registers.{zeros as block_of_zeros};
 ghost use Rattle.iris.specs.Said.{saying, silent};
 ghost use Rattle.iris.specs.Session.{Serves, Stops, IsReady, IsFew, IsOneMore, IsJudged, HasShape};
-ghost use Rattle.iris.specs.Top.{IsFresh};
+ghost use Rattle.iris.specs.Top.{IsEmptyLog};
 
 use crate::blocks::{
     block_name, bytes_of, fill, judge, kept_unless, read_request, record, write_request, zeros,
@@ -229,7 +229,7 @@ pub fn serve_all<S: Store, G: Log>(
 ) -> Result<Replies, NoMemory>
     requires ranges { All IsInRange lines.items }
     requires few { vec_len lines < 2 ^ 30 }
-    requires fresh { IsFresh (G.notes log.old) }
+    requires fresh { IsEmptyLog (G.notes log.old) }
     ensures serves { IfOk result (λ replies. Serves (map request_of lines.items) (G.notes log.old) (G.notes log.new) (S.traffic link.old) (S.traffic link.new) (S.faults link.old) (S.faults link.new) silent replies) }
     ensures judged { OnOk result (IsJudged keys.now.block (G.notes log.new)) }
     ensures shaped { OnOk result (HasShape keys.now.block (G.notes log.new)) }

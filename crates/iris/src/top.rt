@@ -5,7 +5,7 @@ ghost use Rattle.iris_name.specs.Told.{extended};
 ghost use Rattle.iris.specs.Notes.{AllBy, AnyGetFailed, requests_of, replies_of, transfers_of, any_refused, printed};
 ghost use Rattle.iris.specs.Outside.{IsFault};
 ghost use Rattle.iris.specs.Run.{IsEnd, status_of, line_of};
-ghost use Rattle.iris.specs.Top.{IsFresh, IsPrinted, IsServed, IsUnbegun, IsSilent, WasRead, WentOn, AreFirst, IsBadOrLegal, HasItsTransfers, HasNoKey, HasBadLine, IsTooLong, IsInForm, IsDoneIfHonest};
+ghost use Rattle.iris.specs.Top.{IsEmptyLog, IsPrinted, IsServed, IsUnbegun, IsSilent, WasRead, WentOn, AreFirst, IsBadOrLegal, HasItsTransfers, HasNoKey, HasBadLine, IsTooLong, IsInForm, IsDoneIfHonest};
 ghost use Rattle.iris.specs.Words.{AreWords};
 
 use crate::line::{LineError, read_lines};
@@ -80,7 +80,7 @@ fn run<R: Source, W: Sink, S: Store, G: Log>(
     link: &mut S,
     log: &mut G,
 ) -> Result<bool, Stop>
-    requires fresh { IsFresh (G.notes log.old) }
+    requires fresh { IsEmptyLog (G.notes log.old) }
     ensures { IsEnd (map (λ w. w.now) words.now) (R.left script.old) (R.left script.new) (R.faults script.old) (R.faults script.new) (W.written out.old) (W.written out.new) (W.faults out.old) (W.faults out.new) (S.traffic link.old) (S.traffic link.new) (S.faults link.old) (S.faults link.new) (G.notes log.old) (G.notes log.new) result }
 {
     let Some(master) = read_words(words) else {
@@ -134,7 +134,7 @@ pub fn registers<R: Source, W: Sink, S: Store, G: Log>(
     link: S,
     log: G,
 ) -> Registers<S, G>
-    requires fresh { IsFresh (G.notes log) }
+    requires fresh { IsEmptyLog (G.notes log) }
 
     // The source was read to its end, and spells the requests of the calls.
     ensures read { IsServed result.status → IfSome (G.notes result.log) (λ notes. WasRead (R.left script.old) (R.left script.new) (requests_of notes)) }

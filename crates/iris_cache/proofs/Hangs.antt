@@ -15,11 +15,11 @@ use Rattle.iris_node.specs.declared.node.Node.{Node}
 use Rattle.iris_cache.specs.declared.held.Held.{Held}
 use Rattle.iris_cache.specs.declared.held.Edit.{Edit}
 use Rattle.iris_cache.specs.declared.held.Edit.TheVariants.{Pin, Unpin, Dirty, Begin, Finish, Settled, Moved, Kid, Orphan, Adopt}
-use Rattle.iris_cache.specs.Held.{with_node, is_child, points, under, kid_more, kid_less, edited, IsFlag}
+use Rattle.iris_cache.specs.Held.{with_node, is_child, points, with_parent, kid_more, kid_less, edited_node, IsFlag}
 use Rattle.iris_cache.specs.Rehash.{rehashed}
 use Rattle.iris_name.specs.declared.name.Hash32.{Hash32}
 use Rattle.iris_node.specs.declared.node.Node.TheVariants.{Entry, Part}
-use Rattle.iris_cache.specs.Resident.{Resident, held, has_room, children, map_if, IsSound}
+use Rattle.iris_cache.specs.Resident.{Resident, held_node, has_room, children, map_if, IsSound}
 use Rattle.iris_cache.proofs.Counts.{sum-updated, sum-same, weight}
 
 abbrev Once : Resident → Type 0
@@ -36,14 +36,14 @@ map-at g f n q false e = refl
 
 -- a name's count of children, where what is held of n becomes v
 pub children-updated : (m n : Name) (c d : Resident) (v : Option Held) → Once c → Once d
-    → ((q : Name) → held d q ≡ cond (same_name n q) v (held c q)) → children d m + weight (one m) (held c n) ≡ children c m + weight (one m) v
+    → ((q : Name) → held_node d q ≡ cond (same_name n q) v (held_node c q)) → children d m + weight (one m) (held_node c n) ≡ children c m + weight (one m) v
 children-updated m n c d v oc od is = sum-updated (one m) c.nodes d.nodes n v oc od is
 
 pub children-mapped : (m n : Name) (c d : Resident) (f : Held → Held) → Once c → Once d
-    → ((q : Name) → held d q ≡ map_if (same_name n q) f (held c q)) → children d m + weight (one m) (held c n) ≡ children c m + weight (one m) (option_map f (held c n))
-children-mapped m n c d f oc od is = children-updated m n c d (option_map f (held c n)) oc od (λ q. is q ∙ map-at (held c) f n q _ refl)
+    → ((q : Name) → held_node d q ≡ map_if (same_name n q) f (held_node c q)) → children d m + weight (one m) (held_node c n) ≡ children c m + weight (one m) (option_map f (held_node c n))
+children-mapped m n c d f oc od is = children-updated m n c d (option_map f (held_node c n)) oc od (λ q. is q ∙ map-at (held_node c) f n q _ refl)
 
-pub children-same : (m : Name) (c d : Resident) → Once c → Once d → ((q : Name) → held d q ≡ held c q) → children d m ≡ children c m
+pub children-same : (m : Name) (c d : Resident) → Once c → Once d → ((q : Name) → held_node d q ≡ held_node c q) → children d m ≡ children c m
 children-same m c d oc od is = sum-same (one m) c.nodes d.nodes oc od (λ q. sym (is q))
 
 weight-kept : (m : Name) (f : Held → Held) → ((h : Held) → (f h).parent ≡ h.parent) → (o : Option Held) → weight (one m) (option_map f o) ≡ weight (one m) o
@@ -52,15 +52,15 @@ weight-kept m f keep (Some h) = ap (λ p. cond (points p m) 1 0) (keep h)
 
 -- a change of one node that keeps its parent keeps all counts of children
 pub children-kept : (m n : Name) (c d : Resident) (f : Held → Held) → ((h : Held) → (f h).parent ≡ h.parent) → Once c → Once d
-    → ((q : Name) → held d q ≡ map_if (same_name n q) f (held c q)) → children d m ≡ children c m
+    → ((q : Name) → held_node d q ≡ map_if (same_name n q) f (held_node c q)) → children d m ≡ children c m
 children-kept m n c d f keep oc od is =
     let a = children-mapped m n c d f oc od is in
-    let b = weight-kept m f keep (held c n) in
+    let b = weight-kept m f keep (held_node c n) in
     omega (arith, a, b)
 
 -- and so does a change of a parent, where there is one
 pub children-parent : (m : Name) (parent : Option Name) (c d : Resident) (f : Held → Held) → ((h : Held) → (f h).parent ≡ h.parent) → Once c → Once d
-    → ((q : Name) → held d q ≡ map_if (points parent q) f (held c q)) → children d m ≡ children c m
+    → ((q : Name) → held_node d q ≡ map_if (points parent q) f (held_node c q)) → children d m ≡ children c m
 children-parent m None c d f keep oc od is = children-same m c d oc od is
 children-parent m (Some p) c d f keep oc od is = children-kept m p c d f keep oc od is
 
@@ -113,13 +113,13 @@ IfSome-by (Some h) P f = f h refl
 pub children-le : (c : Resident) (n : Name) → children c n ≤ length c.nodes
 children-le c n = let a = count_by-le-length (is_child n) (values_of c.nodes) in let b = length-values_of c.nodes in omega (arith, a, b)
 
-kids-under : (p : Option Name) (b : Bool) (o : Option Held) (h : Held) → map_if b (under p) o ≡ Some h → h.kids ≡ kids_in o
+kids-under : (p : Option Name) (b : Bool) (o : Option Held) (h : Held) → map_if b (with_parent p) o ≡ Some h → h.kids ≡ kids_in o
 kids-under p true None h is = absurd (is-none _ h refl is)
 kids-under p false None h is = absurd (is-none _ h refl is)
 kids-under p true (Some g) h is = ap kids_in (sym is)
 kids-under p false (Some g) h is = ap kids_in (sym is)
 
-kids-of : (c : Resident) (n : Name) → IsSound c → (o : Option Held) → held c n ≡ o → IsSome o → kids_in o ≡ children c n
+kids-of : (c : Resident) (n : Name) → IsSound c → (o : Option Held) → held_node c n ≡ o → IsSome o → kids_in o ≡ children c n
 kids-of c n sound None is s = absurd (true≢false (sym s))
 kids-of c n sound (Some g) is s = sound.kids n g is
 
@@ -127,24 +127,24 @@ points-own : (p : Name) → points (Some p) p ≡ true
 points-own p = same_name_equiv.refl p
 
 module _ (c d : Resident) (n : Name) (sound : IsSound c) where
-  kids-held : (p : Option Name) (q : Name) (h : Held) → ((q : Name) → held d q ≡ map_if (same_name n q) (under p) (held c q)) → held d q ≡ Some h → h.kids ≡ children c q
+  kids-held : (p : Option Name) (q : Name) (h : Held) → ((q : Name) → held_node d q ≡ map_if (same_name n q) (with_parent p) (held_node c q)) → held_node d q ≡ Some h → h.kids ≡ children c q
   kids-held p q h first is =
       let at = sym (first q) ∙ is in
-      kids-under p (same_name n q) (held c q) h at ∙ kids-of c q sound (held c q) refl (before-map (same_name n q) (under p) (held c q) h at)
+      kids-under p (same_name n q) (held_node c q) h at ∙ kids-of c q sound (held_node c q) refl (before-map (same_name n q) (with_parent p) (held_node c q) h at)
 
 -- ---- a node without a parent is hung under one
 module _ (c d : Resident) (n : Name) (parent : Option Name) (h0 : Held)
-    (sound : IsSound c) (at : held c n ≡ Some h0) (alone : h0.parent ≡ None)
-    (first : (q : Name) → held d q ≡ map_if (same_name n q) (under parent) (held c q)) (od : Once d) where
+    (sound : IsSound c) (at : held_node c n ≡ Some h0) (alone : h0.parent ≡ None)
+    (first : (q : Name) → held_node d q ≡ map_if (same_name n q) (with_parent parent) (held_node c q)) (od : Once d) where
   pub linked-first : (m : Name) → children d m ≡ children c m + cond (points parent m) 1 0
   linked-first m =
-      let a = children-mapped m n c d (under parent) sound.once od first in
-      let b : weight (one m) (held c n) ≡ 0 = ap (weight (one m)) at ∙ ap (λ p. cond (points p m) 1 0) alone in
-      let v : weight (one m) (option_map (under parent) (held c n)) ≡ cond (points parent m) 1 0 = ap (λ o. weight (one m) (option_map (under parent) o)) at in
+      let a = children-mapped m n c d (with_parent parent) sound.once od first in
+      let b : weight (one m) (held_node c n) ≡ 0 = ap (weight (one m)) at ∙ ap (λ p. cond (points p m) 1 0) alone in
+      let v : weight (one m) (option_map (with_parent parent) (held_node c n)) ≡ cond (points parent m) 1 0 = ap (λ o. weight (one m) (option_map (with_parent parent) o)) at in
       omega (arith, a, b, v)
 
-  pub linked-fits : length d.nodes ≡ length c.nodes → (p : Name) → parent ≡ Some p → IfSome (held d p) (λ h. h.kids + 1 < 2 ^ 32)
-  linked-fits count p is = IfSome-by (held d p) (λ h. h.kids + 1 < 2 ^ 32) (λ h s.
+  pub linked-fits : length d.nodes ≡ length c.nodes → (p : Name) → parent ≡ Some p → IfSome (held_node d p) (λ h. h.kids + 1 < 2 ^ 32)
+  linked-fits count p is = IfSome-by (held_node d p) (λ h. h.kids + 1 < 2 ^ 32) (λ h s.
       let k = kids-held c d n sound parent p h first s in
       let a : children d p ≡ children c p + 1 = linked-first p ∙ ap (λ x. children c p + cond (points x p) 1 0) is ∙ ap (λ b. children c p + cond b 1 0) (points-own p) in
       let l = children-le d p in
@@ -152,33 +152,33 @@ module _ (c d : Resident) (n : Name) (parent : Option Name) (h0 : Held)
       omega (arith, k, a, l, f, count))
 
 module _ (c d e : Resident) (n : Name) (parent : Option Name) (h0 : Held)
-    (sound : IsSound c) (at : held c n ≡ Some h0) (alone : h0.parent ≡ None)
-    (first : (q : Name) → held d q ≡ map_if (same_name n q) (under parent) (held c q))
-    (second : (q : Name) → held e q ≡ map_if (points parent q) kid_more (held d q))
+    (sound : IsSound c) (at : held_node c n ≡ Some h0) (alone : h0.parent ≡ None)
+    (first : (q : Name) → held_node d q ≡ map_if (same_name n q) (with_parent parent) (held_node c q))
+    (second : (q : Name) → held_node e q ≡ map_if (points parent q) kid_more (held_node d q))
     (od : Once d) (oe : Once e) where
   pub linked-children : (m : Name) → children e m ≡ children c m + cond (points parent m) 1 0
   linked-children m = children-parent m parent d e kid_more (λ h. refl) od oe second ∙ linked-first c d n parent h0 sound at alone first od m
 
-  pub both : (q : Name) → held e q ≡ map_if (points parent q) kid_more (map_if (same_name n q) (under parent) (held c q))
+  pub both : (q : Name) → held_node e q ≡ map_if (points parent q) kid_more (map_if (same_name n q) (with_parent parent) (held_node c q))
   both q = second q ∙ ap (map_if (points parent q) kid_more) (first q)
 
-  pub linked-none : (q : Name) → held e q ≡ None → held c q ≡ None
-  linked-none q is = none-back (same_name n q) (under parent) (held c q) _ refl (none-back (points parent q) kid_more _ (held e q) (both q) is)
+  pub linked-none : (q : Name) → held_node e q ≡ None → held_node c q ≡ None
+  linked-none q is = none-back (same_name n q) (with_parent parent) (held_node c q) _ refl (none-back (points parent q) kid_more _ (held_node e q) (both q) is)
 
   -- where its parent is resident, no node strays
-  home-in : (parent : Option Name) (m : Name) (b : Bool) → points parent m ≡ b → ((p : Name) → parent ≡ Some p → IsSome (held d p)) → held d m ≡ None → ◌≡◌ {A = ℕ} (cond b 1 0) 0
+  home-in : (parent : Option Name) (m : Name) (b : Bool) → points parent m ≡ b → ((p : Name) → parent ≡ Some p → IsSome (held_node d p)) → held_node d m ≡ None → ◌≡◌ {A = ℕ} (cond b 1 0) 0
   home-in None m true s f none = absurd (true≢false (sym s))
-  home-in (Some p) m true s f none = absurd (true≢false (sym (f p refl) ∙ ap (λ (k : Name). is_some (held d k)) (same_name-true p m s) ∙ ap (λ (x : Option Held). is_some x) none))
+  home-in (Some p) m true s f none = absurd (true≢false (sym (f p refl) ∙ ap (λ (k : Name). is_some (held_node d k)) (same_name-true p m s) ∙ ap (λ (x : Option Held). is_some x) none))
   home-in parent m false s f none = refl
 
-  pub linked-homed : ((q : Name) → held c q ≡ None → children c q ≡ 0) → ((p : Name) → parent ≡ Some p → IsSome (held d p)) → (q : Name) → held e q ≡ None → children e q ≡ 0
+  pub linked-homed : ((q : Name) → held_node c q ≡ None → children c q ≡ 0) → ((p : Name) → parent ≡ Some p → IsSome (held_node d p)) → (q : Name) → held_node e q ≡ None → children e q ≡ 0
   linked-homed homed home q none =
       let z = homed q (linked-none q none) in
-      let w = home-in parent q (points parent q) refl home (none-back (points parent q) kid_more (held d q) (held e q) (second q) none) in
+      let w = home-in parent q (points parent q) refl home (none-back (points parent q) kid_more (held_node d q) (held_node e q) (second q) none) in
       let k = linked-children q in
       omega (arith, z, w, k)
 
-  kids-linked : (b t : Bool) (o : Option Held) (h : Held) → map_if b kid_more (map_if t (under parent) o) ≡ Some h → h.kids ≡ kids_in o + cond b 1 0
+  kids-linked : (b t : Bool) (o : Option Held) (h : Held) → map_if b kid_more (map_if t (with_parent parent) o) ≡ Some h → h.kids ≡ kids_in o + cond b 1 0
   kids-linked true true None h is = absurd (is-none _ h refl is)
   kids-linked true false None h is = absurd (is-none _ h refl is)
   kids-linked false true None h is = absurd (is-none _ h refl is)
@@ -188,66 +188,66 @@ module _ (c d e : Resident) (n : Name) (parent : Option Name) (h0 : Held)
   kids-linked false true (Some g) h is = let k : h.kids ≡ g.kids = ap kids_in (sym is) in omega (arith, k)
   kids-linked false false (Some g) h is = let k : h.kids ≡ g.kids = ap kids_in (sym is) in omega (arith, k)
 
-  kids-before : (q : Name) (o : Option Held) (h : Held) → held c q ≡ o → held e q ≡ Some h → kids_in o ≡ children c q
-  kids-before q None h o-is is = absurd (is-none (held e q) h (both q ∙ map_if-none (points parent q) kid_more _ (map_if-none (same_name n q) (under parent) (held c q) o-is)) is)
+  kids-before : (q : Name) (o : Option Held) (h : Held) → held_node c q ≡ o → held_node e q ≡ Some h → kids_in o ≡ children c q
+  kids-before q None h o-is is = absurd (is-none (held_node e q) h (both q ∙ map_if-none (points parent q) kid_more _ (map_if-none (same_name n q) (with_parent parent) (held_node c q) o-is)) is)
   kids-before q (Some g) h o-is is = sound.kids q g o-is
 
-  own-linked : (q : Name) (h : Held) → held e q ≡ Some h → name_of h.node ≡ q
+  own-linked : (q : Name) (h : Held) → held_node e q ≡ Some h → name_of h.node ≡ q
   own-linked q h is =
-      own-mapped kid_more (λ g. refl) q (points parent q) (held d q) (held e q) h (second q) is
-      (λ g dis. own-mapped (under parent) (λ k. refl) q (same_name n q) (held c q) (held d q) g (first q) dis (sound.own q))
+      own-mapped kid_more (λ g. refl) q (points parent q) (held_node d q) (held_node e q) h (second q) is
+      (λ g dis. own-mapped (with_parent parent) (λ k. refl) q (same_name n q) (held_node c q) (held_node d q) g (first q) dis (sound.own q))
 
   pub linked-sound : e.room ≡ c.room → length e.nodes ≡ length c.nodes → IsSound e
   linked-sound room count = record {
     once = oe;
     own = own-linked;
     kids = λ q h is.
-        let a = kids-linked (points parent q) (same_name n q) (held c q) h (sym (both q) ∙ is) in
-        let b = kids-before q (held c q) h refl is in
+        let a = kids-linked (points parent q) (same_name n q) (held_node c q) h (sym (both q) ∙ is) in
+        let b = kids-before q (held_node c q) h refl is in
         let k = linked-children q in
         omega (arith, a, b, k);
-    empty = λ q has. both q ∙ map_if-none (points parent q) kid_more _ (map_if-none (same_name n q) (under parent) (held c q) (sound.empty q (subst (λ (r : List Name). list_any (same_name q) r ≡ true) room has)));
+    empty = λ q has. both q ∙ map_if-none (points parent q) kid_more _ (map_if-none (same_name n q) (with_parent parent) (held_node c q) (sound.empty q (subst (λ (r : List Name). list_any (same_name q) r ≡ true) room has)));
     few = let r : length e.room ≡ length c.room = ap length room in let f = sound.few in omega (arith, r, count, f);
   }
 
 -- ---- a node is taken from its parent
 module _ (c d : Resident) (n : Name) (h0 : Held)
-    (sound : IsSound c) (at : held c n ≡ Some h0)
-    (first : (q : Name) → held d q ≡ map_if (same_name n q) (under None) (held c q)) (od : Once d) where
+    (sound : IsSound c) (at : held_node c n ≡ Some h0)
+    (first : (q : Name) → held_node d q ≡ map_if (same_name n q) (with_parent None) (held_node c q)) (od : Once d) where
   pub unlinked-first : (m : Name) → children d m + cond (points h0.parent m) 1 0 ≡ children c m
   unlinked-first m =
-      let a = children-mapped m n c d (under None) sound.once od first in
-      let b : weight (one m) (held c n) ≡ cond (points h0.parent m) 1 0 = ap (weight (one m)) at in
-      let v : weight (one m) (option_map (under None) (held c n)) ≡ 0 = ap (λ o. weight (one m) (option_map (under None) o)) at in
+      let a = children-mapped m n c d (with_parent None) sound.once od first in
+      let b : weight (one m) (held_node c n) ≡ cond (points h0.parent m) 1 0 = ap (weight (one m)) at in
+      let v : weight (one m) (option_map (with_parent None) (held_node c n)) ≡ 0 = ap (λ o. weight (one m) (option_map (with_parent None) o)) at in
       omega (arith, a, b, v)
 
-  pub unlinked-fits : (p : Name) → h0.parent ≡ Some p → IfSome (held d p) (λ h. 1 ≤ h.kids)
-  unlinked-fits p is = IfSome-by (held d p) (λ h. 1 ≤ h.kids) (λ h s.
+  pub unlinked-fits : (p : Name) → h0.parent ≡ Some p → IfSome (held_node d p) (λ h. 1 ≤ h.kids)
+  unlinked-fits p is = IfSome-by (held_node d p) (λ h. 1 ≤ h.kids) (λ h s.
       let k = kids-held c d n sound None p h first s in
       let a : children d p + 1 ≡ children c p = sym (ap (λ x. children d p + cond (points x p) 1 0) is ∙ ap (λ b. children d p + cond b 1 0) (points-own p)) ∙ unlinked-first p in
       omega (arith, k, a))
 
 module _ (c d e : Resident) (n : Name) (h0 : Held)
-    (sound : IsSound c) (at : held c n ≡ Some h0)
-    (first : (q : Name) → held d q ≡ map_if (same_name n q) (under None) (held c q))
-    (second : (q : Name) → held e q ≡ map_if (points h0.parent q) kid_less (held d q))
+    (sound : IsSound c) (at : held_node c n ≡ Some h0)
+    (first : (q : Name) → held_node d q ≡ map_if (same_name n q) (with_parent None) (held_node c q))
+    (second : (q : Name) → held_node e q ≡ map_if (points h0.parent q) kid_less (held_node d q))
     (od : Once d) (oe : Once e) where
   pub unlinked-children : (m : Name) → children e m + cond (points h0.parent m) 1 0 ≡ children c m
   unlinked-children m = ap (λ k. k + cond (points h0.parent m) 1 0) (children-parent m h0.parent d e kid_less (λ h. refl) od oe second) ∙ unlinked-first c d n h0 sound at first od m
 
-  pub un-both : (q : Name) → held e q ≡ map_if (points h0.parent q) kid_less (map_if (same_name n q) (under None) (held c q))
+  pub un-both : (q : Name) → held_node e q ≡ map_if (points h0.parent q) kid_less (map_if (same_name n q) (with_parent None) (held_node c q))
   un-both q = second q ∙ ap (map_if (points h0.parent q) kid_less) (first q)
 
-  pub unlinked-none : (q : Name) → held e q ≡ None → held c q ≡ None
-  unlinked-none q is = none-back (same_name n q) (under None) (held c q) _ refl (none-back (points h0.parent q) kid_less _ (held e q) (un-both q) is)
+  pub unlinked-none : (q : Name) → held_node e q ≡ None → held_node c q ≡ None
+  unlinked-none q is = none-back (same_name n q) (with_parent None) (held_node c q) _ refl (none-back (points h0.parent q) kid_less _ (held_node e q) (un-both q) is)
 
-  pub unlinked-homed : ((q : Name) → held c q ≡ None → children c q ≡ 0) → (q : Name) → held e q ≡ None → children e q ≡ 0
+  pub unlinked-homed : ((q : Name) → held_node c q ≡ None → children c q ≡ 0) → (q : Name) → held_node e q ≡ None → children e q ≡ 0
   unlinked-homed homed q none =
       let z = homed q (unlinked-none q none) in
       let k = unlinked-children q in
       omega (arith, z, k)
 
-  kids-unlinked : (b t : Bool) (o : Option Held) (h : Held) → map_if b kid_less (map_if t (under None) o) ≡ Some h → h.kids ≡ kids_in o - cond b 1 0
+  kids-unlinked : (b t : Bool) (o : Option Held) (h : Held) → map_if b kid_less (map_if t (with_parent None) o) ≡ Some h → h.kids ≡ kids_in o - cond b 1 0
   kids-unlinked true true None h is = absurd (is-none _ h refl is)
   kids-unlinked true false None h is = absurd (is-none _ h refl is)
   kids-unlinked false true None h is = absurd (is-none _ h refl is)
@@ -257,25 +257,25 @@ module _ (c d e : Resident) (n : Name) (h0 : Held)
   kids-unlinked false true (Some g) h is = let k : h.kids ≡ g.kids = ap kids_in (sym is) in omega (arith, k)
   kids-unlinked false false (Some g) h is = let k : h.kids ≡ g.kids = ap kids_in (sym is) in omega (arith, k)
 
-  un-kids-before : (q : Name) (o : Option Held) (h : Held) → held c q ≡ o → held e q ≡ Some h → kids_in o ≡ children c q
-  un-kids-before q None h o-is is = absurd (is-none (held e q) h (un-both q ∙ map_if-none (points h0.parent q) kid_less _ (map_if-none (same_name n q) (under None) (held c q) o-is)) is)
+  un-kids-before : (q : Name) (o : Option Held) (h : Held) → held_node c q ≡ o → held_node e q ≡ Some h → kids_in o ≡ children c q
+  un-kids-before q None h o-is is = absurd (is-none (held_node e q) h (un-both q ∙ map_if-none (points h0.parent q) kid_less _ (map_if-none (same_name n q) (with_parent None) (held_node c q) o-is)) is)
   un-kids-before q (Some g) h o-is is = sound.kids q g o-is
 
-  own-unlinked : (q : Name) (h : Held) → held e q ≡ Some h → name_of h.node ≡ q
+  own-unlinked : (q : Name) (h : Held) → held_node e q ≡ Some h → name_of h.node ≡ q
   own-unlinked q h is =
-      own-mapped kid_less (λ g. refl) q (points h0.parent q) (held d q) (held e q) h (second q) is
-      (λ g dis. own-mapped (under None) (λ k. refl) q (same_name n q) (held c q) (held d q) g (first q) dis (sound.own q))
+      own-mapped kid_less (λ g. refl) q (points h0.parent q) (held_node d q) (held_node e q) h (second q) is
+      (λ g dis. own-mapped (with_parent None) (λ k. refl) q (same_name n q) (held_node c q) (held_node d q) g (first q) dis (sound.own q))
 
   pub unlinked-sound : e.room ≡ c.room → length e.nodes ≡ length c.nodes → IsSound e
   unlinked-sound room count = record {
     once = oe;
     own = own-unlinked;
     kids = λ q h is.
-        let a = kids-unlinked (points h0.parent q) (same_name n q) (held c q) h (sym (un-both q) ∙ is) in
-        let b = un-kids-before q (held c q) h refl is in
+        let a = kids-unlinked (points h0.parent q) (same_name n q) (held_node c q) h (sym (un-both q) ∙ is) in
+        let b = un-kids-before q (held_node c q) h refl is in
         let k = unlinked-children q in
         omega (arith, a, b, k);
-    empty = λ q has. un-both q ∙ map_if-none (points h0.parent q) kid_less _ (map_if-none (same_name n q) (under None) (held c q) (sound.empty q (subst (λ (r : List Name). list_any (same_name q) r ≡ true) room has)));
+    empty = λ q has. un-both q ∙ map_if-none (points h0.parent q) kid_less _ (map_if-none (same_name n q) (with_parent None) (held_node c q) (sound.empty q (subst (λ (r : List Name). list_any (same_name q) r ≡ true) room has)));
     few = let r : length e.room ≡ length c.room = ap length room in let f = sound.few in omega (arith, r, count, f);
   }
 
@@ -285,12 +285,12 @@ cond-some true v h o A is f g = subst A (ap (λ (x : Option Held). option_unwrap
 cond-some false v h o A is f g = g is
 
 module _ (c e : Resident) (n : Name) (v : Held)
-    (sound : IsSound c) (absent : held c n ≡ None) (alone : v.parent ≡ None) (named : name_of v.node ≡ n) (counts : v.kids ≡ children c n)
-    (is : (q : Name) → held e q ≡ cond (same_name n q) (Some v) (held c q)) (oe : Once e) where
+    (sound : IsSound c) (absent : held_node c n ≡ None) (alone : v.parent ≡ None) (named : name_of v.node ≡ n) (counts : v.kids ≡ children c n)
+    (is : (q : Name) → held_node e q ≡ cond (same_name n q) (Some v) (held_node c q)) (oe : Once e) where
   pub put-children : (m : Name) → children e m ≡ children c m
   put-children m =
       let a = children-updated m n c e (Some v) sound.once oe is in
-      let b : weight (one m) (held c n) ≡ 0 = ap (weight (one m)) absent in
+      let b : weight (one m) (held_node c n) ≡ 0 = ap (weight (one m)) absent in
       let w : weight (one m) (Some v) ≡ 0 = ap (λ p. cond (points p m) 1 0) alone in
       omega (arith, a, b, w)
 
@@ -298,10 +298,10 @@ module _ (c e : Resident) (n : Name) (v : Held)
   cond-none true o none = absurd (true≢false (ap (λ (x : Option Held). is_some x) none))
   cond-none false o none = none
 
-  pub put-none : (q : Name) → held e q ≡ None → held c q ≡ None
-  put-none q none = cond-none (same_name n q) (held c q) (sym (is q) ∙ none)
+  pub put-none : (q : Name) → held_node e q ≡ None → held_node c q ≡ None
+  put-none q none = cond-none (same_name n q) (held_node c q) (sym (is q) ∙ none)
 
-  put-empty : (q : Name) (b : Bool) → same_name n q ≡ b → cond b false (has_room c q) ≡ true → held c q ≡ None → cond b (Some v) (held c q) ≡ None
+  put-empty : (q : Name) (b : Bool) → same_name n q ≡ b → cond b false (has_room c q) ≡ true → held_node c q ≡ None → cond b (Some v) (held_node c q) ≡ None
   put-empty q true s has none = absurd (true≢false (sym has))
   put-empty q false s has none = none
 
@@ -312,20 +312,20 @@ module _ (c e : Resident) (n : Name) (v : Held)
   pub put-sound : ((q : Name) → has_room e q ≡ cond (same_name n q) false (has_room c q)) → length e.nodes + length e.room ≡ length c.nodes + length c.room → IsSound e
   put-sound room count = record {
     once = oe;
-    own = λ q h at. cond-some (same_name n q) v h (held c q) (λ x. name_of x.node ≡ q) (sym (is q) ∙ at) (λ s. named ∙ same_name-true n q s) (sound.own q h);
-    kids = λ q h at. cond-some (same_name n q) v h (held c q) (λ x. x.kids ≡ children e q) (sym (is q) ∙ at)
+    own = λ q h at. cond-some (same_name n q) v h (held_node c q) (λ x. name_of x.node ≡ q) (sym (is q) ∙ at) (λ s. named ∙ same_name-true n q s) (sound.own q h);
+    kids = λ q h at. cond-some (same_name n q) v h (held_node c q) (λ x. x.kids ≡ children e q) (sym (is q) ∙ at)
         (λ s. counts ∙ ap (children c) (same_name-true n q s) ∙ sym (put-children q)) (λ o. sound.kids q h o ∙ sym (put-children q));
     empty = λ q has. let h = sym (room q) ∙ has in is q ∙ put-empty q (same_name n q) refl h (sound.empty q (put-room (same_name n q) (has_room c q) h));
     few = let f = sound.few in omega (arith, count, f);
   }
 
 module _ (c e : Resident) (n : Name) (h0 : Held)
-    (sound : IsSound c) (at : held c n ≡ Some h0) (alone : h0.parent ≡ None)
-    (is : (q : Name) → held e q ≡ cond (same_name n q) None (held c q)) (oe : Once e) where
+    (sound : IsSound c) (at : held_node c n ≡ Some h0) (alone : h0.parent ≡ None)
+    (is : (q : Name) → held_node e q ≡ cond (same_name n q) None (held_node c q)) (oe : Once e) where
   pub take-children : (m : Name) → children e m ≡ children c m
   take-children m =
       let a = children-updated m n c e None sound.once oe is in
-      let b : weight (one m) (held c n) ≡ 0 = ap (weight (one m)) at ∙ ap (λ p. cond (points p m) 1 0) alone in
+      let b : weight (one m) (held_node c n) ≡ 0 = ap (weight (one m)) at ∙ ap (λ p. cond (points p m) 1 0) alone in
       omega (arith, a, b)
 
   take-some : (b : Bool) (o : Option Held) (h : Held) → cond b None o ≡ Some h → o ≡ Some h
@@ -339,18 +339,18 @@ module _ (c e : Resident) (n : Name) (h0 : Held)
   pub take-sound : e.room ≡ c.room → length e.nodes + 1 ≡ length c.nodes → IsSound e
   take-sound room count = record {
     once = oe;
-    own = λ q h s. sound.own q h (take-some (same_name n q) (held c q) h (sym (is q) ∙ s));
-    kids = λ q h s. sound.kids q h (take-some (same_name n q) (held c q) h (sym (is q) ∙ s)) ∙ sym (take-children q);
-    empty = λ q has. is q ∙ to-none (same_name n q) (held c q) (sound.empty q (subst (λ (r : List Name). list_any (same_name q) r ≡ true) room has));
+    own = λ q h s. sound.own q h (take-some (same_name n q) (held_node c q) h (sym (is q) ∙ s));
+    kids = λ q h s. sound.kids q h (take-some (same_name n q) (held_node c q) h (sym (is q) ∙ s)) ∙ sym (take-children q);
+    empty = λ q has. is q ∙ to-none (same_name n q) (held_node c q) (sound.empty q (subst (λ (r : List Name). list_any (same_name q) r ≡ true) room has));
     few = let r : length e.room ≡ length c.room = ap length room in let f = sound.few in omega (arith, r, count, f);
   }
 
   -- where its name has no children, none come without a parent
-  take-none : (q : Name) (b : Bool) → same_name n q ≡ b → cond b None (held c q) ≡ None → children c n ≡ 0 → (held c q ≡ None → children c q ≡ 0) → children c q ≡ 0
+  take-none : (q : Name) (b : Bool) → same_name n q ≡ b → cond b None (held_node c q) ≡ None → children c n ≡ 0 → (held_node c q ≡ None → children c q ≡ 0) → children c q ≡ 0
   take-none q true s none k f = ap (children c) (sym (same_name-true n q s)) ∙ k
   take-none q false s none k f = f none
 
-  pub take-homed : h0.kids ≡ 0 → ((q : Name) → held c q ≡ None → children c q ≡ 0) → (q : Name) → held e q ≡ None → children e q ≡ 0
+  pub take-homed : h0.kids ≡ 0 → ((q : Name) → held_node c q ≡ None → children c q ≡ 0) → (q : Name) → held_node e q ≡ None → children e q ≡ 0
   take-homed childless homed q none = take-children q ∙ take-none q (same_name n q) refl (sym (is q) ∙ none) (sym (sound.kids n h0 at) ∙ childless) (homed q)
 
 pub or-parts : (a b : Bool) → (a || b) ≡ false → (a ≡ false) × (b ≡ false)
@@ -368,21 +368,21 @@ kids-mapped f kids false (Some g) h s = ap kids_in (sym s)
 
 -- ---- a change that keeps the node's name, the parent and the children
 module _ (c e : Resident) (f : Held → Held) (t : Name → Bool)
-    (sound : IsSound c) (is : (q : Name) → held e q ≡ map_if (t q) f (held c q)) (oe : Once e)
+    (sound : IsSound c) (is : (q : Name) → held_node e q ≡ map_if (t q) f (held_node c q)) (oe : Once e)
     (node : (h : Held) → name_of (f h).node ≡ name_of h.node) (kids : (h : Held) → (f h).kids ≡ h.kids) (same : (q : Name) → children e q ≡ children c q) where
   pub flagged-sound : e.room ≡ c.room → length e.nodes ≡ length c.nodes → IsSound e
   flagged-sound room count = record {
     once = oe;
-    own = λ q h s. own-mapped f node q (t q) (held c q) (held e q) h (is q) s (sound.own q);
-    kids = λ q h s. let at = sym (is q) ∙ s in kids-mapped f kids (t q) (held c q) h at ∙ kids-of c q sound (held c q) refl (before-map (t q) f (held c q) h at) ∙ sym (same q);
-    empty = λ q has. is q ∙ map_if-none (t q) f (held c q) (sound.empty q (subst (λ (r : List Name). list_any (same_name q) r ≡ true) room has));
+    own = λ q h s. own-mapped f node q (t q) (held_node c q) (held_node e q) h (is q) s (sound.own q);
+    kids = λ q h s. let at = sym (is q) ∙ s in kids-mapped f kids (t q) (held_node c q) h at ∙ kids-of c q sound (held_node c q) refl (before-map (t q) f (held_node c q) h at) ∙ sym (same q);
+    empty = λ q has. is q ∙ map_if-none (t q) f (held_node c q) (sound.empty q (subst (λ (r : List Name). list_any (same_name q) r ≡ true) room has));
     few = let r : length e.room ≡ length c.room = ap length room in let s = sound.few in omega (arith, r, count, s);
   }
 
-  pub flagged-homed : ((q : Name) → held c q ≡ None → children c q ≡ 0) → (q : Name) → held e q ≡ None → children e q ≡ 0
-  flagged-homed homed q none = same q ∙ homed q (none-back (t q) f (held c q) (held e q) (is q) none)
+  pub flagged-homed : ((q : Name) → held_node c q ≡ None → children c q ≡ 0) → (q : Name) → held_node e q ≡ None → children e q ≡ 0
+  flagged-homed homed q none = same q ∙ homed q (none-back (t q) f (held_node c q) (held_node e q) (is q) none)
 
-pub keeps-node : (x : Edit) → IsFlag x → (h : Held) → name_of (edited x h).node ≡ name_of h.node
+pub keeps-node : (x : Edit) → IsFlag x → (h : Held) → name_of (edited_node x h).node ≡ name_of h.node
 keeps-node (Pin who) i h = refl
 keeps-node (Unpin who) i h = refl
 keeps-node Dirty i h = refl
@@ -394,7 +394,7 @@ keeps-node Kid i h = elim i [ ]
 keeps-node Orphan i h = elim i [ ]
 keeps-node (Adopt _) i h = elim i [ ]
 
-pub keeps-kids : (x : Edit) → IsFlag x → (h : Held) → (edited x h).kids ≡ h.kids
+pub keeps-kids : (x : Edit) → IsFlag x → (h : Held) → (edited_node x h).kids ≡ h.kids
 keeps-kids (Pin who) i h = refl
 keeps-kids (Unpin who) i h = refl
 keeps-kids Dirty i h = refl
@@ -406,7 +406,7 @@ keeps-kids Kid i h = elim i [ ]
 keeps-kids Orphan i h = elim i [ ]
 keeps-kids (Adopt _) i h = elim i [ ]
 
-pub keeps-parent : (x : Edit) → IsFlag x → (h : Held) → (edited x h).parent ≡ h.parent
+pub keeps-parent : (x : Edit) → IsFlag x → (h : Held) → (edited_node x h).parent ≡ h.parent
 keeps-parent (Pin who) i h = refl
 keeps-parent (Unpin who) i h = refl
 keeps-parent Dirty i h = refl
@@ -428,9 +428,9 @@ children-all m f keep (e ∷ es) =
     ∙ sym (sum_by-cons (one m) e.1 (values_of es))
 
 -- ---- an empty place more
-module _ (c e : Resident) (n : Name) (sound : IsSound c) (absent : held c n ≡ None) (nodes : e.nodes ≡ c.nodes) where
-  roomy-empty : (b : Bool) (q : Name) → same_name n q ≡ b → cond b true (has_room c q) ≡ true → held c q ≡ None
-  roomy-empty true q s has = ap (held c) (sym (same_name-true n q s)) ∙ absent
+module _ (c e : Resident) (n : Name) (sound : IsSound c) (absent : held_node c n ≡ None) (nodes : e.nodes ≡ c.nodes) where
+  roomy-empty : (b : Bool) (q : Name) → same_name n q ≡ b → cond b true (has_room c q) ≡ true → held_node c q ≡ None
+  roomy-empty true q s has = ap (held_node c) (sym (same_name-true n q s)) ∙ absent
   roomy-empty false q s has = sound.empty q has
 
   pub roomy-sound : ((q : Name) → has_room e q ≡ cond (same_name n q) true (has_room c q)) → length c.nodes + length e.room < 2 ^ 32 → IsSound e
@@ -452,7 +452,7 @@ rehash-name n x (Part p) = refl
 
 -- ---- empty places more, none of a resident name
 module _ (c e : Resident) (sound : IsSound c) (nodes : e.nodes ≡ c.nodes) where
-  pub roomier-sound : ((q : Name) → has_room e q ≡ true → held c q ≡ None) → length c.nodes + length e.room < 2 ^ 32 → IsSound e
+  pub roomier-sound : ((q : Name) → has_room e q ≡ true → held_node c q ≡ None) → length c.nodes + length e.room < 2 ^ 32 → IsSound e
   roomier-sound free few = record {
     once = subst (λ (l : List (Name × Held)). IsDistinct same_name (keys_of l)) (sym nodes) sound.once;
     own = λ q h s. sound.own q h (ap (λ (l : List (Name × Held)). lookup (same_name q) l) (sym nodes) ∙ s);
@@ -467,41 +467,41 @@ free-or true s (Some g) h f = f refl
 free-or false true (Some g) h f = absurd (true≢false (sym h))
 free-or false false (Some g) h f = absurd (true≢false (sym h))
 
-pub still-free : (c e : Resident) (sets : Name → Bool) → IsSound c → ((q : Name) → has_room e q ≡ (has_room c q || (sets q && not (is_some (held c q))))) → (q : Name) → has_room e q ≡ true → held c q ≡ None
-still-free c e sets sound is q has = free-or (has_room c q) (sets q) (held c q) (sym (is q) ∙ has) (sound.empty q)
+pub still-free : (c e : Resident) (sets : Name → Bool) → IsSound c → ((q : Name) → has_room e q ≡ (has_room c q || (sets q && not (is_some (held_node c q))))) → (q : Name) → has_room e q ≡ true → held_node c q ≡ None
+still-free c e sets sound is q has = free-or (has_room c q) (sets q) (held_node c q) (sym (is q) ∙ has) (sound.empty q)
 
 -- ---- a change that keeps the parent and the children
 module _ (c e : Resident) (f : Held → Held) (t : Name → Bool)
-    (sound : IsSound c) (is : (q : Name) → held e q ≡ map_if (t q) f (held c q)) (oe : Once e)
-    (own : (q : Name) (h : Held) → held e q ≡ Some h → name_of h.node ≡ q) (kids : (h : Held) → (f h).kids ≡ h.kids) (same : (q : Name) → children e q ≡ children c q) where
+    (sound : IsSound c) (is : (q : Name) → held_node e q ≡ map_if (t q) f (held_node c q)) (oe : Once e)
+    (own : (q : Name) (h : Held) → held_node e q ≡ Some h → name_of h.node ≡ q) (kids : (h : Held) → (f h).kids ≡ h.kids) (same : (q : Name) → children e q ≡ children c q) where
   pub rewritten-sound : e.room ≡ c.room → length e.nodes ≡ length c.nodes → IsSound e
   rewritten-sound room count = record {
     once = oe;
     own = own;
-    kids = λ q h s. let at = sym (is q) ∙ s in kids-mapped f kids (t q) (held c q) h at ∙ kids-of c q sound (held c q) refl (before-map (t q) f (held c q) h at) ∙ sym (same q);
-    empty = λ q has. is q ∙ map_if-none (t q) f (held c q) (sound.empty q (subst (λ (r : List Name). list_any (same_name q) r ≡ true) room has));
+    kids = λ q h s. let at = sym (is q) ∙ s in kids-mapped f kids (t q) (held_node c q) h at ∙ kids-of c q sound (held_node c q) refl (before-map (t q) f (held_node c q) h at) ∙ sym (same q);
+    empty = λ q has. is q ∙ map_if-none (t q) f (held_node c q) (sound.empty q (subst (λ (r : List Name). list_any (same_name q) r ≡ true) room has));
     few = let r : length e.room ≡ length c.room = ap length room in let s = sound.few in omega (arith, r, count, s);
   }
 
-  pub rewritten-homed : ((q : Name) → held c q ≡ None → children c q ≡ 0) → (q : Name) → held e q ≡ None → children e q ≡ 0
-  rewritten-homed homed q none = same q ∙ homed q (none-back (t q) f (held c q) (held e q) (is q) none)
+  pub rewritten-homed : ((q : Name) → held_node c q ≡ None → children c q ≡ 0) → (q : Name) → held_node e q ≡ None → children e q ≡ 0
+  rewritten-homed homed q none = same q ∙ homed q (none-back (t q) f (held_node c q) (held_node e q) (is q) none)
 
 own-renewed : (k : Node) (n q : Name) (b : Bool) (o : Option Held) (h : Held) → name_of k ≡ n → same_name n q ≡ b → map_if b (with_node k) o ≡ Some h → (o ≡ Some h → name_of h.node ≡ q) → name_of h.node ≡ q
 own-renewed k n q true None h named s is own = absurd (is-none _ h refl is)
 own-renewed k n q true (Some g) h named s is own = ap (node_in n) (sym is) ∙ named ∙ same_name-true n q s
 own-renewed k n q false o h named s is own = own is
 
-pub renewed-own : (c e : Resident) (k : Node) (n : Name) → IsSound c → name_of k ≡ n → ((q : Name) → held e q ≡ map_if (same_name n q) (with_node k) (held c q))
-    → (q : Name) (h : Held) → held e q ≡ Some h → name_of h.node ≡ q
-renewed-own c e k n sound named is q h at = own-renewed k n q (same_name n q) (held c q) h named refl (sym (is q) ∙ at) (sound.own q h)
+pub renewed-own : (c e : Resident) (k : Node) (n : Name) → IsSound c → name_of k ≡ n → ((q : Name) → held_node e q ≡ map_if (same_name n q) (with_node k) (held_node c q))
+    → (q : Name) (h : Held) → held_node e q ≡ Some h → name_of h.node ≡ q
+renewed-own c e k n sound named is q h at = own-renewed k n q (same_name n q) (held_node c q) h named refl (sym (is q) ∙ at) (sound.own q h)
 
 -- a resident name has no empty place
-pub no-place : (c : Resident) (n q : Name) (s : Bool) → IsSound c → is_some (held c n) ≡ true → same_name n q ≡ s → has_room c q ≡ (has_room c q && not s)
+pub no-place : (c : Resident) (n q : Name) (s : Bool) → IsSound c → is_some (held_node c n) ≡ true → same_name n q ≡ s → has_room c q ≡ (has_room c q && not s)
 no-place c n q true sound there e = by (has_room c q) refl
   where
     by : (b : Bool) → has_room c q ≡ b → b ≡ (b && false)
     by false r = refl
-    by true r = absurd (true≢false (sym there ∙ ap (λ (x : Option Held). is_some x) (ap (held c) (same_name-true n q e) ∙ sound.empty q r)))
+    by true r = absurd (true≢false (sym there ∙ ap (λ (x : Option Held). is_some x) (ap (held_node c) (same_name-true n q e) ∙ sound.empty q r)))
 no-place c n q false sound there e = by (has_room c q)
   where
     by : (b : Bool) → b ≡ (b && true)

@@ -9,8 +9,8 @@ use Rattle.iris_name.specs.declared.name.Hash32.{Hash32}
 use Rattle.iris_node.specs.declared.node.Node.{Node}
 use Rattle.iris_cache.specs.declared.held.Held.{Held}
 use Rattle.iris_cache.specs.declared.held.Stay.{Stay}
-use Rattle.iris_cache.specs.Held.{points, kid_less, kid_more, newcomer, stay_by, stay_of}
-use Rattle.iris_cache.specs.Resident.{Resident, held, children, map_if, up, IsSound}
+use Rattle.iris_cache.specs.Held.{points, kid_less, kid_more, newcomer_node, stay_by, stay_of}
+use Rattle.iris_cache.specs.Resident.{Resident, held_node, children, map_if, resident_parent, IsSound}
 use Rattle.iris_cache.specs.Laws.{AlikeKeeps, AreAlike, EvictKeeps, InsertKeeps}
 use Rattle.iris_node.specs.Trees.{Shown, IsParent}
 use Rattle.iris_cache.specs.Pictures.{Pictures, IsSettled, IsHashOf, IsLike, Holds}
@@ -18,10 +18,10 @@ use Rattle.iris_cache.proofs.Counts.{weight}
 use Rattle.iris_cache.proofs.Hangs.{one, not-above}
 
 -- a node with a resident child counts it
-child-counts : (c : Resident) (n q : Name) (g : Held) → held c q ≡ Some g → g.parent ≡ Some n → 1 ≤ children c n
+child-counts : (c : Resident) (n q : Name) (g : Held) → held_node c q ≡ Some g → g.parent ≡ Some n → 1 ≤ children c n
 child-counts c n q g at of =
     let e = sum_by-remove_entry (one n) (same_name q) c.nodes in
-    let w : weight (one n) (held c q) ≡ 1 = ap (weight (one n)) at ∙ ap (λ p. cond (points p n) 1 0) of ∙ ap (λ (b : Bool). cond b 1 0) (same_name_equiv.refl n) in
+    let w : weight (one n) (held_node c q) ≡ 1 = ap (weight (one n)) at ∙ ap (λ p. cond (points p n) 1 0) of ∙ ap (λ (b : Bool). cond b 1 0) (same_name_equiv.refl n) in
     omega (arith, e, w)
 
 no-kids-by : (a b k p : Bool) → stay_by a b k p ≡ None → k ≡ false
@@ -66,12 +66,12 @@ known-back false false None k f = tt
 known-back true false (Some g) k f = k
 known-back false false (Some g) k f = k
 
-module _ (shown : Shown) (c e : Resident) (n : Name) (h0 : Held) (pictures : Pictures shown c) (sound : IsSound c) (at : held c n ≡ Some h0) (free : stay_of h0 ≡ None) (settled : h0.settled ≡ true)
-    (is : (q : Name) → held e q ≡ map_if (points (up c n) q) kid_less (cond (same_name n q) None (held c q))) where
-  back : (q : Name) (h : Held) → held e q ≡ Some h → Kept (same_name n q) (held c q) h
-  back q h s = kept (points (up c n) q) (same_name n q) (held c q) h (sym (is q) ∙ s)
+module _ (shown : Shown) (c e : Resident) (n : Name) (h0 : Held) (pictures : Pictures shown c) (sound : IsSound c) (at : held_node c n ≡ Some h0) (free : stay_of h0 ≡ None) (settled : h0.settled ≡ true)
+    (is : (q : Name) → held_node e q ≡ map_if (points (resident_parent c n) q) kid_less (cond (same_name n q) None (held_node c q))) where
+  back : (q : Name) (h : Held) → held_node e q ≡ Some h → Kept (same_name n q) (held_node c q) h
+  back q h s = kept (points (resident_parent c n) q) (same_name n q) (held_node c q) h (sym (is q) ∙ s)
 
-  childless : (q : Name) (g : Held) → held c q ≡ Some g → g.parent ≡ Some n → ⊥
+  childless : (q : Name) (g : Held) → held_node c q ≡ Some g → g.parent ≡ Some n → ⊥
   childless q g s of =
       let none : h0.kids ≡ 0 = not-above h0.kids (no-kids-by (is_some h0.out) h0.dirty (nat_lt 0 h0.kids) (nat_lt 0 h0.pins) free) in
       let count = sound.kids n h0 at in
@@ -82,9 +82,9 @@ module _ (shown : Shown) (c e : Resident) (n : Name) (h0 : Held) (pictures : Pic
   apart-from p true s f = absurd (f (same_name-true n p s))
   apart-from p false s f = refl
 
-  known : (m : Name) → IsSettled (held e m) → IsSettled (held c m)
-  known m k = known-back (points (up c n) m) (same_name n m) (held c m) (subst IsSettled (is m) k)
-      (λ s. subst (λ (p : Name). IsSettled (held c p)) (same_name-true n m s) (subst IsSettled (sym at) settled))
+  known : (m : Name) → IsSettled (held_node e m) → IsSettled (held_node c m)
+  known m k = known-back (points (resident_parent c n) m) (same_name n m) (held_node c m) (subst IsSettled (is m) k)
+      (λ s. subst (λ (p : Name). IsSettled (held_node c p)) (same_name-true n m s) (subst IsSettled (sym at) settled))
 
   evicted-keeps : Pictures shown e
   evicted-keeps = record {
@@ -94,7 +94,7 @@ module _ (shown : Shown) (c e : Resident) (n : Name) (h0 : Held) (pictures : Pic
         let b = back q h s in
         let r = pictures.parents q p b.was b.at parent in
         let apart = apart-from p (same_name n p) refl (λ same. childless q b.was b.at (r.0 ∙ ap Some (sym same))) in
-        (b.parent ∙ r.0, subst IsSome (sym (is p)) (still (points (up c n) p) (same_name n p) (held c p) apart r.1));
+        (b.parent ∙ r.0, subst IsSome (sym (is p)) (still (points (resident_parent c n) p) (same_name n p) (held_node c p) apart r.1));
     tied = λ q p h s of. let b = back q h s in pictures.tied q p b.was b.at (sym b.parent ∙ of);
     rising = λ q p h g s of at-p up-settled.
         let b = back q h s in
@@ -139,43 +139,43 @@ known-before false false v None k f = tt
 known-before true false v (Some g) k f = k
 known-before false false v (Some g) k f = k
 
-module _ (shown : Shown) (c e : Resident) (n : Name) (parent : Option Name) (node : Node) (who kids : ℕ) (pictures : Pictures shown c) (absent : held c n ≡ None)
+module _ (shown : Shown) (c e : Resident) (n : Name) (parent : Option Name) (node : Node) (who kids : ℕ) (pictures : Pictures shown c) (absent : held_node c n ≡ None)
     (own : IsLike (shown n) node)
     (true-hashes : (m : Name) (x : Hash32) → Holds node m x → IsHashOf (shown m) x)
-    (above-it : (p : Name) → IsParent shown p n → (parent ≡ Some p) × IsSome (held c p))
+    (above-it : (p : Name) → IsParent shown p n → (parent ≡ Some p) × IsSome (held_node c p))
     (links-it : (p : Name) → parent ≡ Some p → IsParent shown p n)
-    (is : (q : Name) → held e q ≡ map_if (points parent q) kid_more (cond (same_name n q) (Some (newcomer parent node who kids)) (held c q))) where
-  since : (q : Name) (h : Held) → held e q ≡ Some h → Came (same_name n q) (newcomer parent node who kids) (held c q) h
-  since q h s = came (points parent q) (same_name n q) (newcomer parent node who kids) (held c q) h (sym (is q) ∙ s)
+    (is : (q : Name) → held_node e q ≡ map_if (points parent q) kid_more (cond (same_name n q) (Some (newcomer_node parent node who kids)) (held_node c q))) where
+  since : (q : Name) (h : Held) → held_node e q ≡ Some h → Came (same_name n q) (newcomer_node parent node who kids) (held_node c q) h
+  since q h s = came (points parent q) (same_name n q) (newcomer_node parent node who kids) (held_node c q) h (sym (is q) ∙ s)
 
-  known-m : (m : Name) → IsSettled (held e m) → IsSettled (held c m)
-  known-m m k = known-before (points parent m) (same_name n m) (newcomer parent node who kids) (held c m) (subst IsSettled (is m) k) (λ s. ap (held c) (sym (same_name-true n m s)) ∙ absent)
+  known-m : (m : Name) → IsSettled (held_node e m) → IsSettled (held_node c m)
+  known-m m k = known-before (points parent m) (same_name n m) (newcomer_node parent node who kids) (held_node c m) (subst IsSettled (is m) k) (λ s. ap (held_node c) (sym (same_name-true n m s)) ∙ absent)
 
-  there-still : (p : Name) → IsSome (held c p) → IsSome (held e p)
-  there-still p s = subst IsSome (sym (is p)) (stays (points parent p) (same_name n p) (newcomer parent node who kids) (held c p) s)
+  there-still : (p : Name) → IsSome (held_node c p) → IsSome (held_node e p)
+  there-still p s = subst IsSome (sym (is p)) (stays (points parent p) (same_name n p) (newcomer_node parent node who kids) (held_node c p) s)
 
-  nodes-at : (q : Name) (h : Held) → held e q ≡ Some h → IsLike (shown q) h.node
+  nodes-at : (q : Name) (h : Held) → held_node e q ≡ Some h → IsLike (shown q) h.node
   nodes-at q h s = let b = since q h s in
       elim b.at [
         | inl r ↦ subst (IsLike (shown q)) (sym (b.node ∙ ap (λ (x : Held). x.node) r.1)) (subst (λ (p : Name). IsLike (shown p) node) (same_name-true n q r.0) own)
         | inr o ↦ subst (IsLike (shown q)) (sym b.node) (pictures.nodes q b.was o)
       ]
 
-  hashes-at : (q m : Name) (h : Held) (x : Hash32) → held e q ≡ Some h → Holds h.node m x → IsSettled (held e m) → IsHashOf (shown m) x
+  hashes-at : (q m : Name) (h : Held) (x : Hash32) → held_node e q ≡ Some h → Holds h.node m x → IsSettled (held_node e m) → IsHashOf (shown m) x
   hashes-at q m h x s holds k = let b = since q h s in
       elim b.at [
         | inl r ↦ true-hashes m x (subst (λ y. Holds y m x) (b.node ∙ ap (λ (z : Held). z.node) r.1) holds)
         | inr o ↦ pictures.hashes q m b.was x o (subst (λ y. Holds y m x) b.node holds) (known-m m k)
       ]
 
-  parents-at : (q p : Name) (h : Held) → held e q ≡ Some h → IsParent shown p q → (h.parent ≡ Some p) × IsSome (held e p)
+  parents-at : (q p : Name) (h : Held) → held_node e q ≡ Some h → IsParent shown p q → (h.parent ≡ Some p) × IsSome (held_node e p)
   parents-at q p h s up-it = let b = since q h s in
       elim b.at [
         | inl r ↦ (let a = above-it p (subst (λ (k : Name). IsParent shown p k) (sym (same_name-true n q r.0)) up-it) in (b.parent ∙ ap (λ (z : Held). z.parent) r.1 ∙ a.0, there-still p a.1))
         | inr o ↦ (let a = pictures.parents q p b.was o up-it in (b.parent ∙ a.0, there-still p a.1))
       ]
 
-  tied-at : (q p : Name) (h : Held) → held e q ≡ Some h → h.parent ≡ Some p → IsParent shown p q
+  tied-at : (q p : Name) (h : Held) → held_node e q ≡ Some h → h.parent ≡ Some p → IsParent shown p q
   tied-at q p h s of = let b = since q h s in
       elim b.at [
         | inl r ↦ subst (λ (k : Name). IsParent shown p k) (same_name-true n q r.0) (links-it p (sym (b.parent ∙ ap (λ (z : Held). z.parent) r.1) ∙ of))
@@ -183,10 +183,10 @@ module _ (shown : Shown) (c e : Resident) (n : Name) (parent : Option Name) (nod
       ]
 
   -- no resident node has the parent n, which was absent
-  orphan : (q : Name) (g : Held) → held c q ≡ Some g → g.parent ≡ Some n → ⊥
+  orphan : (q : Name) (g : Held) → held_node c q ≡ Some g → g.parent ≡ Some n → ⊥
   orphan q g s of = true≢false (sym ((pictures.parents q n g s (pictures.tied q n g s of)).1) ∙ ap (λ (x : Option Held). is_some x) absent)
 
-  rising-at : (q p : Name) (h g : Held) → held e q ≡ Some h → h.parent ≡ Some p → held e p ≡ Some g → g.settled ≡ true → h.settled ≡ true
+  rising-at : (q p : Name) (h g : Held) → held_node e q ≡ Some h → h.parent ≡ Some p → held_node e p ≡ Some g → g.settled ≡ true → h.settled ≡ true
   rising-at q p h g s of at-p settled = let b = since q h s in let d = since p g at-p in
       elim b.at [
         | inl r ↦ b.settled ∙ ap (λ (z : Held). z.settled) r.1
@@ -232,11 +232,11 @@ alike-settled (Some g) (Some h) a s = sym a.1.1 ∙ s
 pub alike-keeps : AlikeKeeps
 alike-keeps t c e pictures alike = record {
   nodes = λ q h s. let b = back q h s in subst (IsLike (t q)) (sym b.node) (pictures.nodes q b.was b.at);
-  hashes = λ q m h x s holds k. let b = back q h s in pictures.hashes q m b.was x b.at (subst (λ v. Holds v m x) b.node holds) (alike-settled (held c m) (held e m) (alike m) k);
-  parents = λ q p h s parent. let b = back q h s in let r = pictures.parents q p b.was b.at parent in (b.parent ∙ r.0, alike-there (held c p) (held e p) (alike p) r.1);
+  hashes = λ q m h x s holds k. let b = back q h s in pictures.hashes q m b.was x b.at (subst (λ v. Holds v m x) b.node holds) (alike-settled (held_node c m) (held_node e m) (alike m) k);
+  parents = λ q p h s parent. let b = back q h s in let r = pictures.parents q p b.was b.at parent in (b.parent ∙ r.0, alike-there (held_node c p) (held_node e p) (alike p) r.1);
   tied = λ q p h s of. let b = back q h s in pictures.tied q p b.was b.at (sym b.parent ∙ of);
   rising = λ q p h g s of at settled. let b = back q h s in let d = back p g at in b.settled ∙ pictures.rising q p b.was d.was b.at (sym b.parent ∙ of) d.at (sym d.settled ∙ settled);
 }
   where
-    back : (q : Name) (h : Held) → held e q ≡ Some h → Alike (held c q) h
-    back q h s = alike-in (held c q) (held e q) h (alike q) s
+    back : (q : Name) (h : Held) → held_node e q ≡ Some h → Alike (held_node c q) h
+    back q h s = alike-in (held_node c q) (held_node e q) h (alike q) s

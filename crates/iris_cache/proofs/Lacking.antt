@@ -8,7 +8,7 @@ use Rattle.iris_cache.specs.declared.held.Held.{Held}
 use Rattle.iris_cache.specs.declared.draft.Change.{Change}
 use Rattle.iris_cache.specs.Drafted.{Drafted, drafted, seen, known, known_by, there_by}
 use Rattle.iris_cache.specs.Laws.{Lacks}
-use Rattle.iris_cache.specs.Resident.{Resident, held}
+use Rattle.iris_cache.specs.Resident.{Resident, held_node}
 use Rattle.iris_node.specs.Trees.{Shown, IsTree, IsParent, IsAbove, IsNodeName, node_name}
 use Rattle.iris_cache.specs.Pictures.{Drafts, IsSettled}
 
@@ -17,8 +17,8 @@ unknown_by None None h = (refl, refl)
 unknown_by None (Some w) h = cc
 unknown_by (Some x) w h = cc
 
-pub unknown : (d : Drafted) (c : Resident) (n : Name) → known d c n ≡ None → (drafted d n ≡ None) × (held c n ≡ None)
-unknown d c n h = unknown_by (drafted d n) (held c n) h
+pub unknown : (d : Drafted) (c : Resident) (n : Name) → known d c n ≡ None → (drafted d n ≡ None) × (held_node c n ≡ None)
+unknown d c n h = unknown_by (drafted d n) (held_node c n) h
 
 own_name : (p : Name) (u w : Unfolded) → IsAbove u w → ((m : Name) → node_name u ≡ Some m → m ≡ p) → IsNodeName p
 own_name p (Folder id label less more inside) w a own = subst IsNodeName (own (name.Entry (id_of id)) refl) tt
@@ -55,7 +55,7 @@ not_known d c p e h = let s : seen d c p ≡ None = ap there_by e in let P : Opt
 
 -- where a name is missing whose parent is seen, its parent before is resident
 parent_by : (old new : Shown) (d : Drafted) (c : Resident) (n q p : Name) (o : Option Change) (w : Option Held) → Drafts old new d c → IsTree old → IsTree new → IsParent new q n → IsSome (seen d c q) → IsParent old p n
-    → drafted d p ≡ o → held c p ≡ w → IsSome w
+    → drafted d p ≡ o → held_node c p ≡ w → IsSome w
 parent_by old new d c n q p o (Some h) pic was is parent there before de he = refl
 parent_by old new d c n q p (Some x) None pic was is parent there before de he =
     elim (pic.resident p x de) [
@@ -63,14 +63,14 @@ parent_by old new d c n q p (Some x) None pic was is parent there before de he =
       | inr r ↦ absurd (not_live old p n r before)
     ]
 parent_by old new d c n q p None None pic was is parent there before de he =
-    let k : known d c p ≡ None = ap (λ o. known_by o (held c p)) de ∙ ap (known_by None) he in
+    let k : known d c p ≡ None = ap (λ o. known_by o (held_node c p)) de ∙ ap (known_by None) he in
     let same = pic.away p (parent_named old p n was before) k in
     let after : IsParent new p n = record { parent = before.parent; child = before.child; live = same ∙ before.live; above = before.above; named = before.named } in
     let e : p ≡ q = is.once n p q after parent in
     absurd (not_known d c p k (let P : Name → Type 0 = λ x. IsSome (seen d c x) in subst P (sym e) there))
 
-pub parent_resident : (old new : Shown) (d : Drafted) (c : Resident) (n q : Name) → Drafts old new d c → IsTree old → IsTree new → IsParent new q n → IsSome (seen d c q) → (p : Name) → IsParent old p n → IsSome (held c p)
-parent_resident old new d c n q pic was is parent there p before = parent_by old new d c n q p (drafted d p) (held c p) pic was is parent there before refl refl
+pub parent_resident : (old new : Shown) (d : Drafted) (c : Resident) (n q : Name) → Drafts old new d c → IsTree old → IsTree new → IsParent new q n → IsSome (seen d c q) → (p : Name) → IsParent old p n → IsSome (held_node c p)
+parent_resident old new d c n q pic was is parent there p before = parent_by old new d c n q p (drafted d p) (held_node c p) pic was is parent there before refl refl
 
 there : (o : Option Node) (x : Node) → o ≡ Some x → IsSome o
 there o x e = let P : Option Node → Type 0 = λ o. IsSome o in subst P (sym e) refl

@@ -5,22 +5,22 @@ use Rattle.iris_name.specs.declared.name.Name.{Name}
 use Rattle.iris_node.specs.declared.node.Node.{Node}
 use Rattle.iris_cache.specs.declared.held.Held.{Held}
 use Rattle.iris_cache.specs.declared.draft.Change.{Change}
-use Rattle.iris_cache.specs.Held.{under, with_kids}
+use Rattle.iris_cache.specs.Held.{with_parent, with_kids}
 use Rattle.iris_cache.specs.Drafted.{Drafted, drafted, is_set, IsDraft}
 use Rattle.iris_node.specs.Nodes.{name_of}
-use Rattle.iris_cache.specs.Applied.{bare, hung, written, node_in, spent, landed, landed_by}
-use Rattle.iris_cache.specs.Resident.{Resident, held, children, map_if, IsSound}
+use Rattle.iris_cache.specs.Applied.{bare, hung, node_written, node_of_change, spent, landed_node, landed_node_by}
+use Rattle.iris_cache.specs.Resident.{Resident, held_node, children, map_if, IsSound}
 
 -- to take from a parent twice is to do so once
-pub unhung-twice : (b a : Bool) (o : Option Held) → map_if a (under None) (map_if b (under None) o) ≡ map_if (b || a) (under None) o
+pub unhung-twice : (b a : Bool) (o : Option Held) → map_if a (with_parent None) (map_if b (with_parent None) o) ≡ map_if (b || a) (with_parent None) o
 unhung-twice true true None = refl
 unhung-twice true true (Some h) = refl
 unhung-twice true false o = refl
 unhung-twice false a o = refl
 
-pub hang-step : (a s : Bool) (v : Change) (o : Option Change) (x y : Option Held) → (s ≡ true → (a ≡ false) × (o ≡ Some v)) → y ≡ cond a (hung o x) x → map_if s (under v.parent) y ≡ cond (a || s) (hung o x) x
+pub hang-step : (a s : Bool) (v : Change) (o : Option Change) (x y : Option Held) → (s ≡ true → (a ≡ false) × (o ≡ Some v)) → y ≡ cond a (hung o x) x → map_if s (with_parent v.parent) y ≡ cond (a || s) (hung o x) x
 hang-step true true v o x y f is = absurd (true≢false ((f refl).0))
-hang-step false true v o x y f is = ap (option_map (under v.parent)) is ∙ ap (λ c. hung c x) (sym ((f refl).1))
+hang-step false true v o x y f is = ap (option_map (with_parent v.parent)) is ∙ ap (λ c. hung c x) (sym ((f refl).1))
 hang-step true false v o x y f is = is
 hang-step false false v o x y f is = is
 
@@ -28,10 +28,10 @@ pub hung-all : (o : Option Change) (x : Option Held) → cond (is_some o) (hung 
 hung-all None x = refl
 hung-all (Some v) x = refl
 
-pub write-step : (a s : Bool) (k : Option Node) (o : Option Change) (x y : Option Held) → (s ≡ true → a ≡ false) → (s ≡ true → k ≡ node_in o) → y ≡ cond a (written (node_in o) x) x
-    → cond s (written k y) y ≡ cond (a || s) (written (node_in o) x) x
+pub write-step : (a s : Bool) (k : Option Node) (o : Option Change) (x y : Option Held) → (s ≡ true → a ≡ false) → (s ≡ true → k ≡ node_of_change o) → y ≡ cond a (node_written (node_of_change o) x) x
+    → cond s (node_written k y) y ≡ cond (a || s) (node_written (node_of_change o) x) x
 write-step true true k o x y f g is = absurd (true≢false (f refl))
-write-step false true k o x y f g is = ap (written k) is ∙ ap (λ n. written n x) (g refl)
+write-step false true k o x y f g is = ap (node_written k) is ∙ ap (λ n. node_written n x) (g refl)
 write-step true false k o x y f g is = is
 write-step false false k o x y f g is = is
 
@@ -50,7 +50,7 @@ room-step true true false false p f = refl
 room-step true false true t p f = ap not (f refl)
 room-step true false false t p f = refl
 
-pub set-node : (o : Option Change) → is_set o ≡ is_some (node_in o)
+pub set-node : (o : Option Change) → is_set o ≡ is_some (node_of_change o)
 set-node None = refl
 set-node (Some v) = refl
 
@@ -62,21 +62,21 @@ pub spent-all : (o : Option Change) → cond (is_some o) (option_map spent o) o 
 spent-all None = refl
 spent-all (Some v) = refl
 
-own-of : (d : Drafted) (n : Name) (k : Node) → IsDraft d → (o : Option Change) → drafted d n ≡ o → node_in o ≡ Some k → name_of k ≡ n
+own-of : (d : Drafted) (n : Name) (k : Node) → IsDraft d → (o : Option Change) → drafted d n ≡ o → node_of_change o ≡ Some k → name_of k ≡ n
 own-of d n k draft None is at = absurd (true≢false (sym (ap (λ (x : Option Node). is_some x) at)))
 own-of d n k draft (Some v) is at = draft.own n v k is at
 
-pub own-in : (d : Drafted) (n : Name) (k : Node) → IsDraft d → node_in (drafted d n) ≡ Some k → name_of k ≡ n
+pub own-in : (d : Drafted) (n : Name) (k : Node) → IsDraft d → node_of_change (drafted d n) ≡ Some k → name_of k ≡ n
 own-in d n k draft at = own-of d n k draft (drafted d n) refl at
 
-landing-in : (p : Option Name) (k : Option Node) (y : Option Held) → option_map (under p) (written k (option_map (under None) (option_map (with_kids 0) y))) ≡ option_map (with_kids 0) (landed_by p k y)
+landing-in : (p : Option Name) (k : Option Node) (y : Option Held) → option_map (with_parent p) (node_written k (option_map (with_parent None) (option_map (with_kids 0) y))) ≡ option_map (with_kids 0) (landed_node_by p k y)
 landing-in p None y = refl
 landing-in p (Some k) None = refl
 landing-in p (Some k) (Some h) = refl
 
 -- what the four passes leave of a name
 pub landing : (o : Option Change) (y : Option Held)
-    → hung (option_map spent o) (cond (is_some o) (written (node_in o) (map_if (is_some o) (under None) (option_map (with_kids 0) y))) (map_if (is_some o) (under None) (option_map (with_kids 0) y))) ≡ option_map (with_kids 0) (landed o y)
+    → hung (option_map spent o) (cond (is_some o) (node_written (node_of_change o) (map_if (is_some o) (with_parent None) (option_map (with_kids 0) y))) (map_if (is_some o) (with_parent None) (option_map (with_kids 0) y))) ≡ option_map (with_kids 0) (landed_node o y)
 landing None y = refl
 landing (Some v) y = landing-in v.parent v.node y
 
@@ -89,11 +89,11 @@ with-own-kids m None f = refl
 with-own-kids m (Some h) f = ap (λ (k : ℕ). Some (with_kids k h)) (f h refl)
 
 -- what is held, from what is held but for the count of children
-pub whole : (c : Resident) (q : Name) (y : Option Held) → IsSound c → bare c q ≡ option_map (with_kids 0) y → held c q ≡ option_map (with_kids (children c q)) y
-whole c q y sound is = with-own-kids (children c q) (held c q) (sound.kids q) ∙ ap (option_map (with_kids (children c q))) is ∙ kids-again (children c q) y
+pub whole : (c : Resident) (q : Name) (y : Option Held) → IsSound c → bare c q ≡ option_map (with_kids 0) y → held_node c q ≡ option_map (with_kids (children c q)) y
+whole c q y sound is = with-own-kids (children c q) (held_node c q) (sound.kids q) ∙ ap (option_map (with_kids (children c q))) is ∙ kids-again (children c q) y
 
-pub bare-none : (c : Resident) (q : Name) → bare c q ≡ None → held c q ≡ None
-bare-none c q is = by (held c q) is
+pub bare-none : (c : Resident) (q : Name) → bare c q ≡ None → held_node c q ≡ None
+bare-none c q is = by (held_node c q) is
   where
     by : (o : Option Held) → option_map (with_kids 0) o ≡ None → o ≡ None
     by None e = refl

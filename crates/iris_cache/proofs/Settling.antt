@@ -20,7 +20,7 @@ use Rattle.iris_node.specs.Local.{FolderAt, LeafAt, SplitAt, local_of, led_by, e
 use Rattle.iris_cache.specs.declared.held.Held.{Held}
 use Rattle.iris_cache.specs.Held.{points, settled_so}
 use Rattle.iris_cache.specs.Rehash.{relinked, resided, rebodied, reentered, rehashed, with_hash, whole_part, low_part, high_part}
-use Rattle.iris_cache.specs.Resident.{Resident, held, map_if, up, parent_in}
+use Rattle.iris_cache.specs.Resident.{Resident, held_node, map_if, resident_parent, parent_in}
 use Rattle.iris_cache.specs.Laws.{SetHashKeeps, AreFormed}
 use Rattle.iris_node.specs.Trees.{Shown, IsParent}
 use Rattle.iris_cache.specs.Pictures.{Pictures, IsSettled, IsHashOf, IsLike, Holds, LinkHolds, SideHolds, BodyHolds}
@@ -115,12 +115,12 @@ known-same n x true false (Some g) e k = k
 known-same n x false false (Some g) e k = k
 
 module _ (shown : Shown) (c e : Resident) (n : Name) (x : Hash32) (pictures : Pictures shown c) (formed : AreFormed shown) (is-true : IsHashOf (shown n) x)
-    (ready : (q : Name) (h : Held) → held c q ≡ Some h → h.parent ≡ Some n → h.settled ≡ true)
-    (is : (q : Name) → held e q ≡ map_if (points (up c n) q) (with_hash n x) (map_if (same_name n q) settled_so (held c q))) where
-  before : (q : Name) (h : Held) → held e q ≡ Some h → Was n x (points (up c n) q) (same_name n q) (held c q) h
-  before q h s = was-of n x (points (up c n) q) (same_name n q) (held c q) h (sym (is q) ∙ s)
+    (ready : (q : Name) (h : Held) → held_node c q ≡ Some h → h.parent ≡ Some n → h.settled ≡ true)
+    (is : (q : Name) → held_node e q ≡ map_if (points (resident_parent c n) q) (with_hash n x) (map_if (same_name n q) settled_so (held_node c q))) where
+  before : (q : Name) (h : Held) → held_node e q ≡ Some h → Was n x (points (resident_parent c n) q) (same_name n q) (held_node c q) h
+  before q h s = was-of n x (points (resident_parent c n) q) (same_name n q) (held_node c q) h (sym (is q) ∙ s)
 
-  nodes-at : (q : Name) (h : Held) → held e q ≡ Some h → IsLike (shown q) h.node
+  nodes-at : (q : Name) (h : Held) → held_node e q ≡ Some h → IsLike (shown q) h.node
   nodes-at q h s = let b = before q h s in let old = pictures.nodes q b.was b.at in
       elim b.node [
         | inl r ↦ subst (IsLike (shown q)) (sym r.1) old
@@ -131,42 +131,42 @@ module _ (shown : Shown) (c e : Resident) (n : Name) (x : Hash32) (pictures : Pi
       same-like None k l = l
       same-like (Some u) k l = l ∙ ap Some (sym (local-same n x k))
 
-  known-at : (m : Name) → same_name n m ≡ false → IsSettled (held e m) → IsSettled (held c m)
-  known-at m apart k = known-same n x (points (up c n) m) (same_name n m) (held c m) apart (subst IsSettled (is m) k)
+  known-at : (m : Name) → same_name n m ≡ false → IsSettled (held_node e m) → IsSettled (held_node c m)
+  known-at m apart k = known-same n x (points (resident_parent c n) m) (same_name n m) (held_node c m) apart (subst IsSettled (is m) k)
 
   -- a node that names n is its parent
-  names-n : (q : Name) (g : Held) (y : Hash32) (hn : Held) → held c q ≡ Some g → Holds g.node n y → held c n ≡ Some hn → points (up c n) q ≡ true
+  names-n : (q : Name) (g : Held) (y : Hash32) (hn : Held) → held_node c q ≡ Some g → Holds g.node n y → held_node c n ≡ Some hn → points (resident_parent c n) q ≡ true
   names-n q g y hn at holds here =
       let r = pictures.parents n q hn here (held-child shown q n g.node y formed (pictures.nodes q g at) holds) in
       ap (λ o. points (parent_in o) q) here ∙ ap (λ p. points p q) r.0 ∙ same_name_equiv.refl q
 
   -- what is named by a node that isn't told of it
-  untold : (q m : Name) (g : Held) (y : Hash32) (t : Bool) (o : Option Held) → same_name n m ≡ t → held c n ≡ o → held c q ≡ Some g → points (up c n) q ≡ false → Holds g.node m y → IsSettled (held e m) → IsHashOf (shown m) y
+  untold : (q m : Name) (g : Held) (y : Hash32) (t : Bool) (o : Option Held) → same_name n m ≡ t → held_node c n ≡ o → held_node c q ≡ Some g → points (resident_parent c n) q ≡ false → Holds g.node m y → IsSettled (held_node e m) → IsHashOf (shown m) y
   untold q m g y false o apart on at far holds k = pictures.hashes q m g y at holds (known-at m apart k)
   untold q m g y true None same on at far holds k =
-      let eq = same_name-true n m same in pictures.hashes q m g y at holds (subst IsSettled (sym (ap (held c) (sym eq) ∙ on)) tt)
+      let eq = same_name-true n m same in pictures.hashes q m g y at holds (subst IsSettled (sym (ap (held_node c) (sym eq) ∙ on)) tt)
   untold q m g y true (Some hn) same on at far holds k =
       let eq = same_name-true n m same in
       absurd (true≢false (sym (names-n q g y hn at (subst (λ (p : Name). Holds g.node p y) (sym eq) holds) on) ∙ far))
 
-  hashes-at : (q m : Name) (h : Held) (y : Hash32) → held e q ≡ Some h → Holds h.node m y → IsSettled (held e m) → IsHashOf (shown m) y
+  hashes-at : (q m : Name) (h : Held) (y : Hash32) → held_node e q ≡ Some h → Holds h.node m y → IsSettled (held_node e m) → IsHashOf (shown m) y
   hashes-at q m h y s holds k = let b = before q h s in
       elim b.node [
-        | inl r ↦ untold q m b.was y (same_name n m) (held c n) refl refl b.at r.0 (subst (λ v. Holds v m y) r.1 holds) k
+        | inl r ↦ untold q m b.was y (same_name n m) (held_node c n) refl refl b.at r.0 (subst (λ v. Holds v m y) r.1 holds) k
         | inr r ↦ elim (node-puts n x b.was.node m y (subst (λ v. Holds v m y) r holds)) [
           | inl p ↦ subst (λ (z : Hash32). IsHashOf (shown m) z) (sym p.1) (subst (λ (k : Name). IsHashOf (shown k) x) (sym p.0) is-true)
           | inr o ↦ pictures.hashes q m b.was y b.at o.0 (known-at m (same_name_equiv.symm n m ∙ o.1) k)
         ]
       ]
 
-  parents-at : (q p : Name) (h : Held) → held e q ≡ Some h → IsParent shown p q → (h.parent ≡ Some p) × IsSome (held e p)
+  parents-at : (q p : Name) (h : Held) → held_node e q ≡ Some h → IsParent shown p q → (h.parent ≡ Some p) × IsSome (held_node e p)
   parents-at q p h s f = let b = before q h s in let r = pictures.parents q p b.was b.at f in
-      (b.parent ∙ r.0, subst IsSome (sym (is p)) (still-there n x (points (up c n) p) (same_name n p) (held c p) r.1))
+      (b.parent ∙ r.0, subst IsSome (sym (is p)) (still-there n x (points (resident_parent c n) p) (same_name n p) (held_node c p) r.1))
 
-  tied-at : (q p : Name) (h : Held) → held e q ≡ Some h → h.parent ≡ Some p → IsParent shown p q
+  tied-at : (q p : Name) (h : Held) → held_node e q ≡ Some h → h.parent ≡ Some p → IsParent shown p q
   tied-at q p h s of = let b = before q h s in pictures.tied q p b.was b.at (sym b.parent ∙ of)
 
-  rising-at : (q p : Name) (h g : Held) → held e q ≡ Some h → h.parent ≡ Some p → held e p ≡ Some g → g.settled ≡ true → h.settled ≡ true
+  rising-at : (q p : Name) (h g : Held) → held_node e q ≡ Some h → h.parent ≡ Some p → held_node e p ≡ Some g → g.settled ≡ true → h.settled ≡ true
   rising-at q p h g s of at-p settled = let b = before q h s in let d = before p g at-p in
       elim b.settled [
         | inl r ↦ r.1

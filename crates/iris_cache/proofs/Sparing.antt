@@ -18,7 +18,7 @@ use Rattle.iris_node.specs.Unfolded.{Unfolded, Absent, Folder, Leaf, Even, Split
 use Rattle.iris_node.specs.Local.{Lead, Local, FolderAt, LeafAt, SplitAt, local, local_of, led, led_by, even_by, entry_local}
 use Rattle.iris_node.specs.Trees.{Shown, IsTree, IsParent}
 use Rattle.iris_cache.specs.declared.held.Held.{Held}
-use Rattle.iris_cache.specs.Resident.{Resident, held}
+use Rattle.iris_cache.specs.Resident.{Resident, held_node}
 use Rattle.iris_cache.specs.Drafted.{Drafted, seen}
 use Rattle.iris_cache.specs.Laws.{AreFormed, HaveApart, IsApart, AreApart}
 use Rattle.iris_cache.specs.Pictures.{Drafts, IsHashOf, IsLike, IsSettled, Holds, LinkHolds, SideHolds, BodyHolds}
@@ -228,8 +228,8 @@ says : (o : Option Unfolded) (u : Unfolded) (k : Node) → o ≡ Some u → IsLi
 says o u k live like = let P : Option Unfolded → Type 0 = λ v. IsLike v k in subst P live like
 
 child-hash : (old new : Shown) (d : Drafted) (c : Resident) (n m : Name) (node : Node) (h : Held) (x y : Hash32) → Drafts old new d c → IsTree old → AreFormed old → HaveApart old
-    → seen d c n ≡ Some node → held c n ≡ Some h → Holds node m x → Holds h.node m y → x ≡ y
-child-hash old new d c n m node h x y pic was formed apart sees had hx hy = by (held c m) refl
+    → seen d c n ≡ Some node → held_node c n ≡ Some h → Holds node m x → Holds h.node m y → x ≡ y
+child-hash old new d c n m node h x y pic was formed apart sees had hx hy = by (held_node c m) refl
   where
     like : IsLike (old n) h.node
     like = pic.before.nodes n h had
@@ -240,7 +240,7 @@ child-hash old new d c n m node h x y pic was formed apart sees had hx hy = by (
     live : old m ≡ Some par.child
     live = was.below n m par.parent par.child par.live par.above par.named
 
-    by : (o : Option Held) → held c m ≡ o → x ≡ y
+    by : (o : Option Held) → held_node c m ≡ o → x ≡ y
     by None e = same-hash (old m) par.child x y live ((pic.hashes n m node x sees hx).0 (subst IsSettled (sym e) tt)) (pic.before.hashes n m h y had hy (subst IsSettled (sym e) tt))
     by (Some g) e =
         let up = (pic.before.parents m n g e par).0 in
@@ -293,7 +293,7 @@ node-as (Part p) (Part r) q has = part-as p r q has
 
 -- of a name that stands for the same, a draft sets the node that is held
 pub sets-held : (old new : Shown) (d : Drafted) (c : Resident) (n : Name) (node : Node) (h : Held) → Drafts old new d c → IsTree old → AreFormed old → HaveApart old
-    → seen d c n ≡ Some node → held c n ≡ Some h → new n ≡ old n → node ≡ h.node
+    → seen d c n ≡ Some node → held_node c n ≡ Some h → new n ≡ old n → node ≡ h.node
 sets-held old new d c n node h pic was formed apart sees had same =
     let a : IsLike (old n) node = subst (λ o. IsLike o node) same (pic.nodes n node sees) in
     let q = same-local (old n) node h.node a (pic.before.nodes n h had) in

@@ -13,9 +13,9 @@ use Rattle.iris_cache.specs.declared.held.Held.{Held}
 use Rattle.iris_cache.specs.declared.draft.Change.{Change}
 use Rattle.iris_cache.specs.Pictures.{parent_by, parent_after}
 use Rattle.iris_cache.specs.Drafted.{Drafted, drafted}
-use Rattle.iris_cache.specs.Resident.{Resident, held}
-use Rattle.iris_cache.specs.Applied.{above, IsOver}
-use Rattle.iris_cache.specs.Marked.{met}
+use Rattle.iris_cache.specs.Resident.{Resident, held_node}
+use Rattle.iris_cache.specs.Applied.{is_above_within, IsSelfOrAncestor}
+use Rattle.iris_cache.specs.Marked.{is_met_going_up}
 use Rattle.iris_cache.proofs.Rising.{or-split, or-left, or-right, above-none}
 
 abbrev size : List Name → ℕ
@@ -40,17 +40,17 @@ module _ (up : Name → Option Name) where
   IsWay [] n q = n ≡ q
   IsWay (x ∷ xs) n q = (p : Name) × (x ≡ n) × (up n ≡ Some p) × IsWay xs p q
 
-  way-above : (xs : List Name) (n q : Name) → IsWay xs n q → above up (suc (size xs)) (Some n) q ≡ true
+  way-above : (xs : List Name) (n q : Name) → IsWay xs n q → is_above_within up (suc (size xs)) (Some n) q ≡ true
   way-above [] n q w = or-left (same_name n q) false (ap (same_name n) (sym w) ∙ same_name_equiv.refl n)
-  way-above (x ∷ xs) n q w = or-right (same_name n q) (above up (suc (size xs)) (up n) q) (ap (λ a. above up (suc (size xs)) a q) w.2 ∙ way-above xs w.0 q w.3)
+  way-above (x ∷ xs) n q w = or-right (same_name n q) (is_above_within up (suc (size xs)) (up n) q) (ap (λ a. is_above_within up (suc (size xs)) a q) w.2 ∙ way-above xs w.0 q w.3)
 
-  above-more : (k : ℕ) (at : Option Name) (q : Name) → above up k at q ≡ true → above up (suc k) at q ≡ true
+  above-more : (k : ℕ) (at : Option Name) (q : Name) → is_above_within up k at q ≡ true → is_above_within up (suc k) at q ≡ true
   above-more zero at q h = absurd (true≢false (sym h))
   above-more (suc k) None q h = absurd (true≢false (sym h))
-  above-more (suc k) (Some n) q h = elim (or-split (same_name n q) (above up k (up n) q) h)
-      [ inl s ↦ or-left (same_name n q) (above up (suc k) (up n) q) s | inr r ↦ or-right (same_name n q) (above up (suc k) (up n) q) (above-more k (up n) q r) ]
+  above-more (suc k) (Some n) q h = elim (or-split (same_name n q) (is_above_within up k (up n) q) h)
+      [ inl s ↦ or-left (same_name n q) (is_above_within up (suc k) (up n) q) s | inr r ↦ or-right (same_name n q) (is_above_within up (suc k) (up n) q) (above-more k (up n) q r) ]
 
-  above-grown : (j k : ℕ) (at : Option Name) (q : Name) → above up k at q ≡ true → above up (grown j k) at q ≡ true
+  above-grown : (j k : ℕ) (at : Option Name) (q : Name) → is_above_within up k at q ≡ true → is_above_within up (grown j k) at q ≡ true
   above-grown zero k at q h = h
   above-grown (suc j) k at q h = above-more (grown j k) at q (above-grown j k at q h)
 
@@ -80,14 +80,14 @@ module _ (up : Name → Option Name) where
       by true e = cut n q s.names p s.way s.once e
       by false e = record { names = n ∷ s.names; way = (p, refl, u, s.way); once = IsDistinct-cons same_name n s.names (apart n s.names e) s.once }
 
-  next : (k : ℕ) (n q : Name) (o : Option Name) → up n ≡ o → above up k o q ≡ true → ((p : Name) → above up k (Some p) q ≡ true → Simple p q) → Simple n q
+  next : (k : ℕ) (n q : Name) (o : Option Name) → up n ≡ o → is_above_within up k o q ≡ true → ((p : Name) → is_above_within up k (Some p) q ≡ true → Simple p q) → Simple n q
   next k n q None u r ih = absurd (true≢false (sym r ∙ above-none up k q))
   next k n q (Some p) u r ih = extend n q p u (ih p r)
 
-  simple : (k : ℕ) (n q : Name) → above up k (Some n) q ≡ true → Simple n q
+  simple : (k : ℕ) (n q : Name) → is_above_within up k (Some n) q ≡ true → Simple n q
   unfolding IsDistinct
   simple zero n q h = absurd (true≢false (sym h))
-  simple (suc k) n q h = elim (or-split (same_name n q) (above up k (up n) q) h)
+  simple (suc k) n q h = elim (or-split (same_name n q) (is_above_within up k (up n) q) h)
       [ inl s ↦ record { names = []; way = same_name-true n q s; once = tt } | inr r ↦ next k n q (up n) refl r (λ p t. simple k p q t) ]
 
   module _ (known : List Name) (all : (n p : Name) → up n ≡ Some p → list_any (same_name n) known ≡ true) where
@@ -97,14 +97,14 @@ module _ (up : Name → Option Name) where
         [ inl s ↦ all m w.0 (ap up (same_name-true m x s ∙ w.1) ∙ w.2) | inr r ↦ members xs w.0 q w.3 m r ]
 
     -- who is met at all is met within as many steps as there are names, and one
-    within : (k : ℕ) (n q : Name) → above up k (Some n) q ≡ true → above up (length known + 1) (Some n) q ≡ true
+    within : (k : ℕ) (n q : Name) → is_above_within up k (Some n) q ≡ true → is_above_within up (length known + 1) (Some n) q ≡ true
     within k n q h =
         let s = simple k n q h in
         let le : length s.names ≤ length known = length-le_from_is_member same_name_equiv s.names known s.once (members s.names n q s.way) in
         let l = size-length s.names in
         let j = length known + 1 - suc (size s.names) in
         let e : grown j (suc (size s.names)) ≡ length known + 1 = grown-sum j (suc (size s.names)) ∙ omega (arith, le, l) in
-        subst (λ f. above up f (Some n) q ≡ true) e (above-grown j (suc (size s.names)) (Some n) q (way-above s.names n q s.way))
+        subst (λ f. is_above_within up f (Some n) q ≡ true) e (above-grown j (suc (size s.names)) (Some n) q (way-above s.names n q s.way))
 
 known-by : (o : Option Change) (h : Option Held) (p : Name) → parent_by o h ≡ Some p → (is_some h || is_some o) ≡ true
 known-by (Some v) None p e = refl
@@ -112,16 +112,16 @@ known-by (Some v) (Some h) p e = refl
 known-by None (Some h) p e = refl
 known-by None None p e = absurd (true≢false (sym (ap (λ (x : Option Name). is_some x) e)))
 
-pub over-met : (d : Drafted) (c : Resident) (n q : Name) → IsOver (parent_after d c) n q → met d c n q ≡ true
+pub over-met : (d : Drafted) (c : Resident) (n q : Name) → IsSelfOrAncestor (parent_after d c) n q → is_met_going_up d c n q ≡ true
 over-met d c n q over =
     let known = keys_of c.nodes ++ keys_of d.changes in
     let all : (m p : Name) → parent_after d c m ≡ Some p → list_any (same_name m) known ≡ true = λ m p e.
     list_any-append (same_name m) (keys_of c.nodes) (keys_of d.changes)
     ∙ ap (λ b. b || list_any (same_name m) (keys_of d.changes)) (sym (is_some-lookup (same_name m) c.nodes))
-    ∙ ap (λ b. is_some (held c m) || b) (sym (is_some-lookup (same_name m) d.changes))
-    ∙ known-by (drafted d m) (held c m) p e in
+    ∙ ap (λ b. is_some (held_node c m) || b) (sym (is_some-lookup (same_name m) d.changes))
+    ∙ known-by (drafted d m) (held_node c m) p e in
     let a = length-append (keys_of c.nodes) (keys_of d.changes) in
     let x = length-keys_of c.nodes in
     let y = length-keys_of d.changes in
     let e : length known + 1 ≡ length c.nodes + length d.changes + 1 = omega (arith, a, x, y) in
-    subst (λ f. above (parent_after d c) f (Some n) q ≡ true) e (within (parent_after d c) known all over.0 n q over.1)
+    subst (λ f. is_above_within (parent_after d c) f (Some n) q ≡ true) e (within (parent_after d c) known all over.0 n q over.1)

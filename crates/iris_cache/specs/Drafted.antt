@@ -9,7 +9,7 @@ use Rattle.iris_node.specs.Nodes.{name_of}
 use Rattle.iris_node.specs.declared.node.Node.{Node}
 use Rattle.iris_cache.specs.declared.held.Held.{Held}
 use Rattle.iris_cache.specs.declared.draft.Change.{Change}
-use Rattle.iris_cache.specs.Resident.{Resident, held}
+use Rattle.iris_cache.specs.Resident.{Resident, held_node}
 
 -- the changes by name, each name once and in the order in which they first came
 pub record Drafted : Type 0 where
@@ -20,8 +20,8 @@ abbrev pub drafted : Drafted → Name → Option Change
 drafted d n = lookup (same_name n) d.changes
 
 -- the i-th name, with its node, or none where it is taken away
-abbrev pub entry_at : Drafted → ℕ → Option (Name × Option Node)
-entry_at d i = option_map (λ (e : Name × Change). (e.0, e.1.node)) (slice_get d.changes i)
+abbrev pub drafted_at : Drafted → ℕ → Option (Name × Option Node)
+drafted_at d i = option_map (λ (e : Name × Change). (e.0, e.1.node)) (slice_get d.changes i)
 
 -- a name gets this parent and this node
 abbrev pub set_to : Option Name → Node → Change
@@ -47,7 +47,7 @@ known_by None (Some h) = Some (Some h.node)
 known_by None None = None
 
 abbrev pub known : Drafted → Resident → Name → Option (Option Node)
-known d c n = known_by (drafted d n) (held c n)
+known d c n = known_by (drafted d n) (held_node c n)
 
 -- the node of a name with the changes made, where it is known and wasn't taken away
 abbrev pub there_by : Option (Option Node) → Option Node

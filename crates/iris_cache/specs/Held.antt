@@ -10,24 +10,24 @@ use Rattle.iris_cache.specs.declared.held.Edit.{Edit}
 use Rattle.iris_cache.specs.declared.held.Edit.TheVariants.{Pin, Unpin, Dirty, Begin, Finish, Settled, Moved, Kid, Orphan, Adopt}
 
 -- a pinned node: that caller's bit is set
-abbrev pub pinned : ℕ → Held → Held
-pinned who h = record h { pins = bit_or h.pins (2 ^ who) }
+abbrev pub pinned_node : ℕ → Held → Held
+pinned_node who h = record h { pins = bit_or h.pins (2 ^ who) }
 
 -- a node without that caller's pin: its bit is cleared, and no other
-abbrev pub unpinned : ℕ → Held → Held
-unpinned who h = record h { pins = bit_and h.pins (2 ^ 32 - 1 - 2 ^ who) }
+abbrev pub unpinned_node : ℕ → Held → Held
+unpinned_node who h = record h { pins = bit_and h.pins (2 ^ 32 - 1 - 2 ^ who) }
 
 -- a dirty node
-abbrev pub dirtied : Held → Held
-dirtied h = record h { dirty = true }
+abbrev pub dirtied_node : Held → Held
+dirtied_node h = record h { dirty = true }
 
 -- a node for which a transfer or settling of that caller is out
-abbrev pub begun : ℕ → Held → Held
-begun who h = record h { out = Some who; touched = false }
+abbrev pub begun_node : ℕ → Held → Held
+begun_node who h = record h { out = Some who; touched = false }
 
 -- A node for which nothing is out any more. Clean ends leave it dirty where it isn't settled or was touched.
-abbrev pub finished : Bool → Held → Held
-finished clean h = record h { out = None; dirty = h.dirty && not (clean && (h.settled && not h.touched)) }
+abbrev pub finished_node : Bool → Held → Held
+finished_node clean h = record h { out = None; dirty = h.dirty && not (clean && (h.settled && not h.touched)) }
 
 -- a settled node
 abbrev pub settled_so : Held → Held
@@ -39,12 +39,12 @@ touched_after None t = t
 touched_after (Some who) t = true
 
 -- a node that changed, itself or below it: dirty, unsettled, and touched where something is out
-abbrev pub moved : Held → Held
-moved h = record h { dirty = true; settled = false; touched = touched_after h.out h.touched }
+abbrev pub moved_node : Held → Held
+moved_node h = record h { dirty = true; settled = false; touched = touched_after h.out h.touched }
 
 -- a node with this parent
-abbrev pub under : Option Name → Held → Held
-under parent h = record h { parent = parent }
+abbrev pub with_parent : Option Name → Held → Held
+with_parent parent h = record h { parent = parent }
 
 -- what is held, with another node
 abbrev pub with_node : Node → Held → Held
@@ -82,21 +82,21 @@ abbrev pub stay_of : Held → Option Stay
 stay_of h = stay_by (is_some h.out) h.dirty (nat_lt 0 h.kids) (nat_lt 0 h.pins)
 
 -- a node that was fetched: clean, settled and pinned for the caller, with its resident children
-abbrev pub newcomer : Option Name → Node → ℕ → ℕ → Held
-newcomer parent node who kids = record { node = node; parent = parent; kids = kids; pins = 2 ^ who; dirty = false; settled = true; out = None; touched = false }
+abbrev pub newcomer_node : Option Name → Node → ℕ → ℕ → Held
+newcomer_node parent node who kids = record { node = node; parent = parent; kids = kids; pins = 2 ^ who; dirty = false; settled = true; out = None; touched = false }
 
 -- what each edit makes of a node
-abbrev pub edited : Edit → Held → Held
-edited (Pin who) h = pinned who h
-edited (Unpin who) h = unpinned who h
-edited Dirty h = dirtied h
-edited (Begin who) h = begun who h
-edited (Finish clean) h = finished clean h
-edited Settled h = settled_so h
-edited Moved h = moved h
-edited Kid h = kid_more h
-edited Orphan h = kid_less h
-edited (Adopt parent) h = under parent h
+abbrev pub edited_node : Edit → Held → Held
+edited_node (Pin who) h = pinned_node who h
+edited_node (Unpin who) h = unpinned_node who h
+edited_node Dirty h = dirtied_node h
+edited_node (Begin who) h = begun_node who h
+edited_node (Finish clean) h = finished_node clean h
+edited_node Settled h = settled_so h
+edited_node Moved h = moved_node h
+edited_node Kid h = kid_more h
+edited_node Orphan h = kid_less h
+edited_node (Adopt parent) h = with_parent parent h
 
 -- an edit that stays in the ranges of the fields
 abbrev pub IsEdit : Edit → Held → Type 0

@@ -7,10 +7,10 @@ use Rattle.iris_name.specs.declared.name.Name.TheVariants as name
 use Rattle.iris_node.specs.declared.node.Node.{Node}
 use Rattle.iris_node.specs.Unfolded.{Unfolded, Absent, Folder, Leaf, Even, Split, Stored, id_of}
 use Rattle.iris_cache.specs.declared.held.Held.{Held}
-use Rattle.iris_cache.specs.Applied.{Lands, arrived}
-use Rattle.iris_cache.specs.Held.{points, kid_less, kid_more, moved, newcomer, settled_so, stay_of}
+use Rattle.iris_cache.specs.Applied.{Lands, arrived_node}
+use Rattle.iris_cache.specs.Held.{points, kid_less, kid_more, moved_node, newcomer_node, settled_so, stay_of}
 use Rattle.iris_cache.specs.Rehash.{whole_part, with_hash}
-use Rattle.iris_cache.specs.Resident.{Resident, held, map_if, up, IsSound}
+use Rattle.iris_cache.specs.Resident.{Resident, held_node, map_if, resident_parent, IsSound}
 use Rattle.iris_cache.specs.Drafted.{Drafted, known, seen}
 use Rattle.iris_node.specs.Trees.{Shown, IsTree, IsParent, IsNodeName, node_name}
 use Rattle.iris_cache.specs.Pictures.{Holds, IsHashOf, IsLike, Pictures, Drafts}
@@ -67,28 +67,28 @@ HaveApart t = (n : Name) (u : Unfolded) → t n ≡ Some u → IsApart u
 abbrev pub Lacks : Type 0
 Lacks = (old new : Shown) (d : Drafted) (c : Resident) (n m : Name) (node : Node) (x : Hash32)
     → Drafts old new d c → IsTree old → IsTree new → seen d c n ≡ Some node → Holds node m x → IsParent new n m → known d c m ≡ None
-    → IsSome (old m) × (IsHashOf (old m) x × ((p : Name) → IsParent old p m → IsSome (held c p)))
+    → IsSome (old m) × (IsHashOf (old m) x × ((p : Name) → IsParent old p m → IsSome (held_node c p)))
 
 -- A cache goes on picturing a table where a settled node goes that nothing keeps.
 abbrev pub EvictKeeps : Type 0
 EvictKeeps = (t : Shown) (c e : Resident) (n : Name) (h : Held)
-    → Pictures t c → IsSound c → held c n ≡ Some h → stay_of h ≡ None → h.settled ≡ true
-    → ((q : Name) → held e q ≡ map_if (points (up c n) q) kid_less (if same_name n q then None else held c q)) → Pictures t e
+    → Pictures t c → IsSound c → held_node c n ≡ Some h → stay_of h ≡ None → h.settled ≡ true
+    → ((q : Name) → held_node e q ≡ map_if (points (resident_parent c n) q) kid_less (if same_name n q then None else held_node c q)) → Pictures t e
 
 -- A cache goes on picturing a table where a node of it comes with its true hashes, and its parent, if it has one, is resident.
 abbrev pub InsertKeeps : Type 0
 InsertKeeps = (t : Shown) (c e : Resident) (n : Name) (parent : Option Name) (node : Node) (who kids : ℕ)
-    → Pictures t c → held c n ≡ None → IsLike (t n) node
+    → Pictures t c → held_node c n ≡ None → IsLike (t n) node
     → ((m : Name) (x : Hash32) → Holds node m x → IsHashOf (t m) x)
-    → ((p : Name) → IsParent t p n → (parent ≡ Some p) × IsSome (held c p))
+    → ((p : Name) → IsParent t p n → (parent ≡ Some p) × IsSome (held_node c p))
     → ((p : Name) → parent ≡ Some p → IsParent t p n)
-    → ((q : Name) → held e q ≡ map_if (points parent q) kid_more (if same_name n q then Some (newcomer parent node who kids) else held c q)) → Pictures t e
+    → ((q : Name) → held_node e q ≡ map_if (points parent q) kid_more (if same_name n q then Some (newcomer_node parent node who kids) else held_node c q)) → Pictures t e
 
 -- A cache goes on picturing a table where a node whose resident children are settled is settled with its true hash.
 abbrev pub SetHashKeeps : Type 0
 SetHashKeeps = (t : Shown) (c e : Resident) (n : Name) (x : Hash32)
-    → Pictures t c → AreFormed t → IsHashOf (t n) x → ((q : Name) (h : Held) → held c q ≡ Some h → h.parent ≡ Some n → h.settled ≡ true)
-    → ((q : Name) → held e q ≡ map_if (points (up c n) q) (with_hash n x) (map_if (same_name n q) settled_so (held c q))) → Pictures t e
+    → Pictures t c → AreFormed t → IsHashOf (t n) x → ((q : Name) (h : Held) → held_node c q ≡ Some h → h.parent ≡ Some n → h.settled ≡ true)
+    → ((q : Name) → held_node e q ≡ map_if (points (resident_parent c n) q) (with_hash n x) (map_if (same_name n q) settled_so (held_node c q))) → Pictures t e
 
 -- What a draft makes of a cache pictures the table after.
 abbrev pub ApplyKeeps : Type 0
@@ -106,15 +106,15 @@ KeepsNode g h = h ≡ record g { parent = h.parent; kids = h.kids }
 -- What a draft leaves of what was held of a name. It keeps its node and its marks, and then stands for the same; or it is dirty, unsettled, and touched where something is out, and then stands for something else.
 abbrev pub Left : Type 0 → Option Held → Option Held → Type 0
 Left same None None = same
-Left same None (Some h) = (same → ⊥) × KeepsMarks (arrived h.parent h.node) h
+Left same None (Some h) = (same → ⊥) × KeepsMarks (arrived_node h.parent h.node) h
 Left same (Some g) None = same → ⊥
-Left same (Some g) (Some h) = (same × KeepsNode g h) ⊎ ((same → ⊥) × KeepsMarks (moved g) h)
+Left same (Some g) (Some h) = (same × KeepsNode g h) ⊎ ((same → ⊥) × KeepsMarks (moved_node g) h)
 
 -- A draft marks whatever stands for something else, and nothing more.
 abbrev pub ApplyMarks : Type 0
 ApplyMarks = (old new : Shown) (d : Drafted) (c e : Resident)
     → Drafts old new d c → IsTree old → IsTree new → AreFormed old → AreFormed new → HaveApart old → ((q : Name) → Lands d c e q)
-    → (n : Name) → IsNodeName n → Left (new n ≡ old n) (held c n) (held e n)
+    → (n : Name) → IsNodeName n → Left (new n ≡ old n) (held_node c n) (held_node e n)
 
 -- two that may be held are alike: the same node under the same parent, settled or not
 abbrev pub AreAlike : Option Held → Option Held → Type 0
@@ -125,4 +125,4 @@ AreAlike (Some g) (Some h) = (h.node ≡ g.node) × ((h.parent ≡ g.parent) × 
 
 -- What a cache pictures rests on nodes, parents and what is settled alone: not on pins, dirty marks or what is out.
 abbrev pub AlikeKeeps : Type 0
-AlikeKeeps = (t : Shown) (c e : Resident) → Pictures t c → ((q : Name) → AreAlike (held c q) (held e q)) → Pictures t e
+AlikeKeeps = (t : Shown) (c e : Resident) → Pictures t c → ((q : Name) → AreAlike (held_node c q) (held_node e q)) → Pictures t e

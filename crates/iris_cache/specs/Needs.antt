@@ -6,7 +6,7 @@ use Rattle.iris_name.specs.declared.note.Expect.{Expect}
 use Rattle.iris_name.specs.declared.note.Expect.TheVariants.{Hash, Version}
 use Rattle.iris_node.specs.Unfolded.{Unfolded, hash, node_of}
 use Rattle.iris_node.specs.Trees.{Shown, IsParent}
-use Rattle.iris_cache.specs.Resident.{Resident, held}
+use Rattle.iris_cache.specs.Resident.{Resident, held_node}
 
 -- what the record of a node has to show
 abbrev pub IsExpected : Expect → Option Unfolded → Type 0
@@ -18,4 +18,4 @@ IsExpected (Version version) (Some u) = ⊥
 pub record IsTrueNeed (old new : Shown) (c : Resident) (n : Name) (x : Expect) : Type 0 where
   pub live : IsSome (new n)
   pub expected : IsExpected x (old n)
-  pub parent : (p : Name) → IsParent old p n → IsSome (held c p)
+  pub parent : (p : Name) → IsParent old p n → IsSome (held_node c p)

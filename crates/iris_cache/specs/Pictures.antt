@@ -18,7 +18,7 @@ use Rattle.iris_node.specs.Local.{local, local_of}
 use Rattle.iris_cache.specs.declared.held.Held.{Held}
 use Rattle.iris_cache.specs.declared.draft.Change.{Change}
 use Rattle.iris_cache.specs.Rehash.{whole_part, low_part, high_part}
-use Rattle.iris_cache.specs.Resident.{Resident, held, parent_in}
+use Rattle.iris_cache.specs.Resident.{Resident, held_node, parent_in}
 use Rattle.iris_cache.specs.Drafted.{Drafted, drafted, known, seen}
 
 -- a link holds this hash of this name
@@ -52,11 +52,11 @@ IsHashOf o x = (u : Unfolded) → o ≡ Some u → option_map hash (node_of u) �
 
 -- where a node and the one above it are resident, that one holds this hash of it
 abbrev pub IsHeldHash : Resident → Name → Hash32 → Type 0
-IsHeldHash c n x = (h g : Held) (p : Name) → held c n ≡ Some h → h.parent ≡ Some p → held c p ≡ Some g → Holds g.node n x
+IsHeldHash c n x = (h g : Held) (p : Name) → held_node c n ≡ Some h → h.parent ≡ Some p → held_node c p ≡ Some g → Holds g.node n x
 
 -- a hash of a name was its true one before, where it is absent or settled, and is the one that its resident parent holds
 abbrev pub WasHash : Shown → Resident → Name → Hash32 → Type 0
-WasHash old c n x = (IsSettled (held c n) → IsHashOf (old n) x) × IsHeldHash c n x
+WasHash old c n x = (IsSettled (held_node c n) → IsHashOf (old n) x) × IsHeldHash c n x
 
 -- it is live, and the node says by itself what it stands for
 abbrev pub IsLike : Option Unfolded → Node → Type 0
@@ -65,14 +65,14 @@ IsLike o node = IsSomeAnd o (λ u. local u ≡ Some (local_of node))
 -- A cache pictures a table.
 pub record Pictures (t : Shown) (c : Resident) : Type 0 where
   -- each resident node is the table's, but for hashes
-  pub nodes : (n : Name) (h : Held) → held c n ≡ Some h → IsLike (t n) h.node
+  pub nodes : (n : Name) (h : Held) → held_node c n ≡ Some h → IsLike (t n) h.node
   -- a hash that is held of an absent or a settled child is its true one
-  pub hashes : (n m : Name) (h : Held) (x : Hash32) → held c n ≡ Some h → Holds h.node m x → IsSettled (held c m) → IsHashOf (t m) x
+  pub hashes : (n m : Name) (h : Held) (x : Hash32) → held_node c n ≡ Some h → Holds h.node m x → IsSettled (held_node c m) → IsHashOf (t m) x
   -- the parent of a resident node is resident, and is its parent in the table
-  pub parents : (n p : Name) (h : Held) → held c n ≡ Some h → IsParent t p n → (h.parent ≡ Some p) × IsSome (held c p)
-  pub tied : (n p : Name) (h : Held) → held c n ≡ Some h → h.parent ≡ Some p → IsParent t p n
+  pub parents : (n p : Name) (h : Held) → held_node c n ≡ Some h → IsParent t p n → (h.parent ≡ Some p) × IsSome (held_node c p)
+  pub tied : (n p : Name) (h : Held) → held_node c n ≡ Some h → h.parent ≡ Some p → IsParent t p n
   -- the parent of an unsettled node is unsettled
-  pub rising : (n p : Name) (h g : Held) → held c n ≡ Some h → h.parent ≡ Some p → held c p ≡ Some g → g.settled ≡ true → h.settled ≡ true
+  pub rising : (n p : Name) (h g : Held) → held_node c n ≡ Some h → h.parent ≡ Some p → held_node c p ≡ Some g → g.settled ≡ true → h.settled ≡ true
 
 abbrev pub parent_by : Option Change → Option Held → Option Name
 parent_by (Some change) h = change.parent
@@ -80,7 +80,7 @@ parent_by None h = parent_in h
 
 -- the parent of a name with the changes made
 abbrev pub parent_after : Drafted → Resident → Name → Option Name
-parent_after d c n = parent_by (drafted d n) (held c n)
+parent_after d c n = parent_by (drafted d n) (held_node c n)
 
 -- A cache pictures the table before, and with a draft over it the table after.
 pub record Drafts (old new : Shown) (d : Drafted) (c : Resident) : Type 0 where
@@ -98,4 +98,4 @@ pub record Drafts (old new : Shown) (d : Drafted) (c : Resident) : Type 0 where
   -- a node that neither draft nor cache has stands for the same in both tables
   pub away : (n : Name) → IsNodeName n → known d c n ≡ None → new n ≡ old n
   -- a name that the draft changes is resident, or wasn't live before
-  pub resident : (n : Name) (change : Change) → drafted d n ≡ Some change → IsSome (held c n) ⊎ (old n ≡ None)
+  pub resident : (n : Name) (change : Change) → drafted d n ≡ Some change → IsSome (held_node c n) ⊎ (old n ≡ None)

@@ -15,8 +15,8 @@ pub record Resident : Type 0 where
   pub room : List Name
 
 -- what is held of a name
-abbrev pub held : Resident → Name → Option Held
-held c n = lookup (same_name n) c.nodes
+abbrev pub held_node : Resident → Name → Option Held
+held_node c n = lookup (same_name n) c.nodes
 
 -- whether a name has an empty place
 abbrev pub has_room : Resident → Name → Bool
@@ -31,8 +31,8 @@ parent_in None = None
 parent_in (Some h) = h.parent
 
 -- the parent of a resident node
-abbrev pub up : Resident → Name → Option Name
-up c n = parent_in (held c n)
+abbrev pub resident_parent : Resident → Name → Option Name
+resident_parent c n = parent_in (held_node c n)
 
 -- a node that may be there, changed by f where the test holds
 abbrev pub map_if : Bool → (Held → Held) → Option Held → Option Held
@@ -40,18 +40,18 @@ map_if b f h = cond b (option_map f h) h
 
 -- what is held of n is changed by f, and nothing else
 abbrev pub Updates : Resident → Resident → Name → (Held → Held) → Type 0
-Updates old new n f = (q : Name) → held new q ≡ map_if (same_name n q) f (held old q)
+Updates old new n f = (q : Name) → held_node new q ≡ map_if (same_name n q) f (held_node old q)
 
 -- What every cache keeps.
 pub record IsSound (c : Resident) : Type 0 where
   -- each name is resident once
   pub once : IsDistinct same_name (keys_of c.nodes)
   -- each node is held under its own name
-  pub own : (n : Name) (h : Held) → held c n ≡ Some h → name_of h.node ≡ n
+  pub own : (n : Name) (h : Held) → held_node c n ≡ Some h → name_of h.node ≡ n
   -- `kids` counts the resident children
-  pub kids : (n : Name) (h : Held) → held c n ≡ Some h → h.kids ≡ children c n
+  pub kids : (n : Name) (h : Held) → held_node c n ≡ Some h → h.kids ≡ children c n
   -- no resident name has an empty place
-  pub empty : (n : Name) → has_room c n ≡ true → held c n ≡ None
+  pub empty : (n : Name) → has_room c n ≡ true → held_node c n ≡ None
   -- names that are resident or have a place are fewer than 2^32
   pub few : length c.nodes + length c.room < 2 ^ 32
 
@@ -59,4 +59,4 @@ pub record IsSound (c : Resident) : Type 0 where
 pub record IsKept (c : Resident) (astray : Bool) (free : ℕ) : Type 0 where
   pub sound : IsSound c
   pub places : length c.room ≤ free
-  pub homed : astray ≡ false → (n : Name) → held c n ≡ None → children c n ≡ 0
+  pub homed : astray ≡ false → (n : Name) → held_node c n ≡ None → children c n ≡ 0

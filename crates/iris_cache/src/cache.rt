@@ -5,9 +5,9 @@ ghost use Rattle.std.specs.Option.{option_copied, option_map};
 ghost use Rattle.iris_name.specs.Names.{same_name};
 ghost use Rattle.iris_node.specs.Nodes.{name_of};
 ghost use Rattle.iris_cache.specs.declared.held.Held.{Held as HeldRecord};
-ghost use Rattle.iris_cache.specs.Held.{points, kid_more, kid_less, newcomer, stay_of};
+ghost use Rattle.iris_cache.specs.Held.{points, kid_more, kid_less, newcomer_node, stay_of};
 ghost use Rattle.iris_name.specs.declared.name.Name.{Name as SpecName};
-ghost use Rattle.iris_cache.specs.Resident.{held, has_room, children, up, map_if, IsSound};
+ghost use Rattle.iris_cache.specs.Resident.{held_node, has_room, children, resident_parent, map_if, IsSound};
 
 use crate::held::{Held, Stay};
 use indexmap::{IndexMap, IndexSet};
@@ -39,7 +39,7 @@ impl Model for Cache {
 impl Cache {
     /// Nothing is resident.
     pub fn new(alloc: Global) -> Cache
-        ensures nodes { (n : SpecName) → held result n ≡ None }
+        ensures nodes { (n : SpecName) → held_node result n ≡ None }
         ensures room { (n : SpecName) → has_room result n ≡ false }
         ensures count { length result.nodes ≡ 0 }
     {
@@ -77,7 +77,7 @@ impl Cache {
 
     /// What is held of a name.
     pub fn find(&self, name: &Name) -> Option<&Held>
-        ensures { option_copied result ≡ held self.now name.now }
+        ensures { option_copied result ≡ held_node self.now name.now }
     {
         self.nodes.get(name)
     }
@@ -85,7 +85,7 @@ impl Cache {
     /// Keeps an empty place for a name, where it isn't resident.
     pub fn room(&mut self, name: &Name) -> Result<(), NoMemory>
         ensures nodes { self.new.nodes ≡ self.old.nodes }
-        ensures kept { OnOk result ((q : SpecName) → has_room self.new q ≡ (if same_name name.now q then not (is_some (held self.old q)) else has_room self.old q)) }
+        ensures kept { OnOk result ((q : SpecName) → has_room self.new q ≡ (if same_name name.now q then not (is_some (held_node self.old q)) else has_room self.old q)) }
         ensures err { OnErr result (self.new ≡ self.old) }
     {
         if self.nodes.contains_key(name) {
@@ -114,7 +114,7 @@ impl Cache {
     pub fn insert(&mut self, parent: Option<Name>, node: Node, who: u32)
         requires room { has_room self.old (name_of node) ≡ true }
         requires caller { who ≤ 16 }
-        ensures nodes { (q : SpecName) → held self.new q ≡ map_if (points parent q) kid_more (if same_name (name_of node) q then Some (newcomer parent node who (children self.old (name_of node))) else held self.old q) }
+        ensures nodes { (q : SpecName) → held_node self.new q ≡ map_if (points parent q) kid_more (if same_name (name_of node) q then Some (newcomer_node parent node who (children self.old (name_of node))) else held_node self.old q) }
         ensures room { (q : SpecName) → has_room self.new q ≡ (if same_name (name_of node) q then false else has_room self.old q) }
         ensures count { length self.new.nodes ≡ length self.old.nodes + 1 }
     {
@@ -134,11 +134,11 @@ impl Cache {
 
     /// Lets a node go, or says why it stays.
     pub fn evict(&mut self, name: &Name) -> Result<Node, Stay>
-        requires { IsSome (held self.old name.now) }
-        ensures gone { IfOk result (λ n. option_map (λ (h : HeldRecord). h.node) (held self.old name.now) ≡ Some n) }
-        ensures free { OnOk result (IfSome (held self.old name.now) (λ h. stay_of h ≡ None)) }
-        ensures stays { IfErr result (λ s. IfSome (held self.old name.now) (λ h. stay_of h ≡ Some s)) }
-        ensures nodes { OnOk result ((q : SpecName) → held self.new q ≡ map_if (points (up self.old name.now) q) kid_less (if same_name name.now q then None else held self.old q)) }
+        requires { IsSome (held_node self.old name.now) }
+        ensures gone { IfOk result (λ n. option_map (λ (h : HeldRecord). h.node) (held_node self.old name.now) ≡ Some n) }
+        ensures free { OnOk result (IfSome (held_node self.old name.now) (λ h. stay_of h ≡ None)) }
+        ensures stays { IfErr result (λ s. IfSome (held_node self.old name.now) (λ h. stay_of h ≡ Some s)) }
+        ensures nodes { OnOk result ((q : SpecName) → held_node self.new q ≡ map_if (points (resident_parent self.old name.now) q) kid_less (if same_name name.now q then None else held_node self.old q)) }
         ensures count { OnOk result (length self.new.nodes + 1 ≡ length self.old.nodes) }
         ensures room { self.new.room ≡ self.old.room }
         ensures err { OnErr result (self.new ≡ self.old) }
@@ -152,7 +152,7 @@ impl Cache {
 
     // Why a node can't go, if so.
     fn stay(&self, name: &Name) -> Option<Stay>
-        ensures { IfSome (held self.now name.now) (λ h. stay_of h ≡ result) }
+        ensures { IfSome (held_node self.now name.now) (λ h. stay_of h ≡ result) }
     {
         match self.nodes.get(name) {
             Some(held) => held.stay(),

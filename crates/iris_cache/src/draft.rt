@@ -6,7 +6,7 @@ ghost use Rattle.iris_name.specs.Names.{same_name};
 ghost use Rattle.iris_name.specs.declared.name.Name.{Name as SpecName};
 ghost use Rattle.iris_node.specs.Nodes.{name_of};
 ghost use Rattle.indexmap.specs.IndexMap.{insert_entry};
-ghost use Rattle.iris_cache.specs.Drafted.{drafted, set_to, taken_away, known, seen, entry_at, IsDraft};
+ghost use Rattle.iris_cache.specs.Drafted.{drafted, set_to, taken_away, known, seen, drafted_at, IsDraft};
 ghost use Rattle.iris_cache.specs.Applied.{spent};
 
 use crate::cache::Cache;
@@ -118,7 +118,7 @@ impl Draft {
     /// The `i`-th name, in the order in which they first came, with its node, or none where it is taken away.
     pub fn at(&self, i: u32) -> (&Name, Option<&Node>)
         requires { i < length self.now.changes }
-        ensures { entry_at self.now i ≡ Some (result.0.now, option_copied result.1) }
+        ensures { drafted_at self.now i ≡ Some (result.0.now, option_copied result.1) }
     {
         match self.changes.get_index(i as usize) {
             Some((name, change)) => (name, change.node.as_ref()),

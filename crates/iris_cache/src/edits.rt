@@ -6,7 +6,7 @@ ghost use Rattle.std.specs.List.{count_by};
 ghost use Rattle.iris_name.specs.Names.{same_name};
 ghost use Rattle.iris_name.specs.declared.name.Name.{Name as SpecName};
 ghost use Rattle.indexmap.specs.IndexMap.{IsUnique, spare, get};
-ghost use Rattle.iris_cache.specs.Held.{IsEdit, edited, is_child, points, unpinned, with_node};
+ghost use Rattle.iris_cache.specs.Held.{IsEdit, edited_node, is_child, points, unpinned_node, with_node};
 ghost use Rattle.iris_cache.specs.Resident.{map_if};
 
 use crate::held::{Edit, Held};
@@ -17,7 +17,7 @@ use iris_node::Node;
 // Makes an edit of a node, where it is resident.
 pub(crate) fn edit(nodes: &mut IndexMap<Name, Held>, name: &Name, edit: Edit)
     requires { IfSome (get same_name nodes.old name.now) (IsEdit edit) }
-    ensures nodes { (q : SpecName) → get same_name nodes.new q ≡ map_if (same_name name.now q) (edited edit) (get same_name nodes.old q) }
+    ensures nodes { (q : SpecName) → get same_name nodes.new q ≡ map_if (same_name name.now q) (edited_node edit) (get same_name nodes.old q) }
     ensures count { length nodes.new.entries ≡ length nodes.old.entries }
     ensures spare { spare nodes.new ≡ spare nodes.old }
     ensures unique { IsUnique same_name nodes.old → IsUnique same_name nodes.new }
@@ -34,7 +34,7 @@ pub(crate) fn edit_parent(
     change: Edit,
 ) -> bool
     requires { (p : SpecName) → parent ≡ Some p → IfSome (get same_name nodes.old p) (IsEdit change) }
-    ensures nodes { (q : SpecName) → get same_name nodes.new q ≡ map_if (points parent q) (edited change) (get same_name nodes.old q) }
+    ensures nodes { (q : SpecName) → get same_name nodes.new q ≡ map_if (points parent q) (edited_node change) (get same_name nodes.old q) }
     ensures count { length nodes.new.entries ≡ length nodes.old.entries }
     ensures spare { spare nodes.new ≡ spare nodes.old }
     ensures unique { IsUnique same_name nodes.old → IsUnique same_name nodes.new }
@@ -73,7 +73,7 @@ fn is_under(held: &Held, name: &Name) -> bool
 // Takes a caller's pin off every node.
 pub(crate) fn unpin_all(nodes: &mut IndexMap<Name, Held>, who: u32)
     requires { who ≤ 16 }
-    ensures nodes { nodes.new.entries ≡ map (λ e. (e.0, unpinned who e.1)) nodes.old.entries }
+    ensures nodes { nodes.new.entries ≡ map (λ e. (e.0, unpinned_node who e.1)) nodes.old.entries }
     ensures spare { spare nodes.old ≤ spare nodes.new }
     ensures unique { IsUnique same_name nodes.new }
 {

@@ -3,8 +3,8 @@
 ghost use Rattle.std.specs.Prelude.{◌≡◌, ◌≤◌, IfSome, IsSome, None, length};
 ghost use Rattle.std.specs.Option.{option_map};
 ghost use Rattle.iris_name.specs.declared.name.Name.{Name as SpecName};
-ghost use Rattle.iris_cache.specs.Held.{edited, IsFlag, pinned, unpinned, dirtied, begun, finished};
-ghost use Rattle.iris_cache.specs.Resident.{held, Updates};
+ghost use Rattle.iris_cache.specs.Held.{edited_node, IsFlag, pinned_node, unpinned_node, dirtied_node, begun_node, finished_node};
+ghost use Rattle.iris_cache.specs.Resident.{held_node, Updates};
 
 use crate::cache::Cache;
 use crate::edits::{edit, unpin_all};
@@ -15,7 +15,7 @@ impl Cache {
     // Makes an edit of a resident node that leaves its node, its parent and its children.
     pub(crate) fn flag(&mut self, name: &Name, change: Edit)
         requires { IsFlag change }
-        ensures nodes { Updates self.old self.new name.now (edited change) }
+        ensures nodes { Updates self.old self.new name.now (edited_node change) }
         ensures room { self.new.room ≡ self.old.room }
         ensures count { length self.new.nodes ≡ length self.old.nodes }
     {
@@ -24,8 +24,8 @@ impl Cache {
 
     /// Makes a node dirty.
     pub fn mark(&mut self, name: &Name)
-        requires { IsSome (held self.old name.now) }
-        ensures nodes { Updates self.old self.new name.now dirtied }
+        requires { IsSome (held_node self.old name.now) }
+        ensures nodes { Updates self.old self.new name.now dirtied_node }
         ensures room { self.new.room ≡ self.old.room }
         ensures count { length self.new.nodes ≡ length self.old.nodes }
     {
@@ -34,9 +34,9 @@ impl Cache {
 
     /// Pins a node for a caller.
     pub fn pin(&mut self, name: &Name, who: u32)
-        requires resident { IsSome (held self.old name.now) }
+        requires resident { IsSome (held_node self.old name.now) }
         requires caller { who ≤ 16 }
-        ensures nodes { Updates self.old self.new name.now (pinned who) }
+        ensures nodes { Updates self.old self.new name.now (pinned_node who) }
         ensures room { self.new.room ≡ self.old.room }
         ensures count { length self.new.nodes ≡ length self.old.nodes }
     {
@@ -45,9 +45,9 @@ impl Cache {
 
     /// Takes a caller's pin off a node.
     pub fn unpin(&mut self, name: &Name, who: u32)
-        requires resident { IsSome (held self.old name.now) }
+        requires resident { IsSome (held_node self.old name.now) }
         requires caller { who ≤ 16 }
-        ensures nodes { Updates self.old self.new name.now (unpinned who) }
+        ensures nodes { Updates self.old self.new name.now (unpinned_node who) }
         ensures room { self.new.room ≡ self.old.room }
         ensures count { length self.new.nodes ≡ length self.old.nodes }
     {
@@ -56,10 +56,10 @@ impl Cache {
 
     /// A transfer or settling of a node begins for a caller.
     pub fn begin(&mut self, name: &Name, who: u32)
-        requires free { IfSome (held self.old name.now) (λ h. h.out ≡ None) }
-        requires resident { IsSome (held self.old name.now) }
+        requires free { IfSome (held_node self.old name.now) (λ h. h.out ≡ None) }
+        requires resident { IsSome (held_node self.old name.now) }
         requires caller { who ≤ 16 }
-        ensures nodes { Updates self.old self.new name.now (begun who) }
+        ensures nodes { Updates self.old self.new name.now (begun_node who) }
         ensures room { self.new.room ≡ self.old.room }
         ensures count { length self.new.nodes ≡ length self.old.nodes }
     {
@@ -68,9 +68,9 @@ impl Cache {
 
     /// What is out for a node ends, cleanly or not.
     pub fn finish(&mut self, name: &Name, clean: bool)
-        requires out { IfSome (held self.old name.now) (λ h. IsSome h.out) }
-        requires resident { IsSome (held self.old name.now) }
-        ensures nodes { Updates self.old self.new name.now (finished clean) }
+        requires out { IfSome (held_node self.old name.now) (λ h. IsSome h.out) }
+        requires resident { IsSome (held_node self.old name.now) }
+        ensures nodes { Updates self.old self.new name.now (finished_node clean) }
         ensures room { self.new.room ≡ self.old.room }
         ensures count { length self.new.nodes ≡ length self.old.nodes }
     {
@@ -80,7 +80,7 @@ impl Cache {
     /// Takes all pins of a caller off.
     pub fn release(&mut self, who: u32)
         requires { who ≤ 16 }
-        ensures nodes { (q : SpecName) → held self.new q ≡ option_map (unpinned who) (held self.old q) }
+        ensures nodes { (q : SpecName) → held_node self.new q ≡ option_map (unpinned_node who) (held_node self.old q) }
         ensures room { self.new.room ≡ self.old.room }
         ensures count { length self.new.nodes ≡ length self.old.nodes }
     {

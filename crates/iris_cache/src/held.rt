@@ -1,7 +1,7 @@
 //! What the cache holds of a node.
 
 ghost use Rattle.std.specs.Prelude.{◌≡◌};
-ghost use Rattle.iris_cache.specs.Held.{IsEdit, edited, touched_after, stay_of, with_node};
+ghost use Rattle.iris_cache.specs.Held.{IsEdit, edited_node, touched_after, stay_of, with_node};
 
 use iris_name::{Expect, Name, NoMemory};
 use iris_node::Node;
@@ -71,7 +71,7 @@ impl Held {
     // Makes an edit.
     pub(crate) fn edit(&mut self, edit: Edit)
         requires { IsEdit edit self.old }
-        ensures { self.new ≡ edited edit self.old }
+        ensures { self.new ≡ edited_node edit self.old }
     {
         match edit {
             Edit::Pin(who) => self.pins |= 1 << who,

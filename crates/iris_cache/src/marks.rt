@@ -4,10 +4,10 @@ ghost use Rattle.std.specs.Prelude.{◌≡◌, ◌+◌, true, false, Some, lengt
 ghost use Rattle.iris_name.specs.declared.name.Name.{Name as SpecName};
 ghost use Rattle.indexmap.specs.IndexMap.{IsUnique};
 ghost use Rattle.iris_name.specs.Names.{same_name};
-ghost use Rattle.iris_cache.specs.Held.{moved};
-ghost use Rattle.iris_cache.specs.Applied.{above, Differs};
+ghost use Rattle.iris_cache.specs.Held.{moved_node};
+ghost use Rattle.iris_cache.specs.Applied.{is_above_within, Differs};
 ghost use Rattle.iris_cache.specs.Pictures.{parent_after};
-ghost use Rattle.iris_cache.specs.Resident.{held, map_if};
+ghost use Rattle.iris_cache.specs.Resident.{held_node, map_if};
 ghost use Rattle.iris_cache.specs.Marked.{Marks, MarksOne};
 
 use crate::cache::Cache;
@@ -30,8 +30,8 @@ impl Cache {
 
     // Whether a change sets a node where none was, or to another value.
     fn differs(&self, name: &Name, node: &Option<Node>) -> bool
-        ensures yes { result ≡ true → Differs node.now (held self.now name.now) }
-        ensures no { result ≡ false → Differs node.now (held self.now name.now) → ⊥ }
+        ensures yes { result ≡ true → Differs node.now (held_node self.now name.now) }
+        ensures no { result ≡ false → Differs node.now (held_node self.now name.now) → ⊥ }
     {
         let Some(node) = node else {
             return false;
@@ -44,7 +44,7 @@ impl Cache {
 
     // Marks a node and all above it with the changes made.
     fn mark_up(&mut self, changes: &IndexMap<Name, Change>, name: &Name)
-        ensures nodes { (q : SpecName) → held self.new q ≡ map_if (above (parent_after (record { changes = changes.now.entries }) self.old) (length self.old.nodes + length changes.now.entries + 1) (Some name.now) q) moved (held self.old q) }
+        ensures nodes { (q : SpecName) → held_node self.new q ≡ map_if (is_above_within (parent_after (record { changes = changes.now.entries }) self.old) (length self.old.nodes + length changes.now.entries + 1) (Some name.now) q) moved_node (held_node self.old q) }
         ensures room { self.new.room ≡ self.old.room }
         ensures count { length self.new.nodes ≡ length self.old.nodes }
     {
@@ -76,7 +76,7 @@ impl Cache {
 
     // Marks a node that differs, and all above it.
     fn mark_where(&mut self, changes: &IndexMap<Name, Change>, name: &Name, change: &Change)
-        ensures nodes { MarksOne (record { changes = changes.now.entries }) self.old self.new name.now (Differs change.now.node (held self.old name.now)) }
+        ensures nodes { MarksOne (record { changes = changes.now.entries }) self.old self.new name.now (Differs change.now.node (held_node self.old name.now)) }
         ensures room { self.new.room ≡ self.old.room }
         ensures count { length self.new.nodes ≡ length self.old.nodes }
     {

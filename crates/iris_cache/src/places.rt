@@ -6,7 +6,7 @@ ghost use Rattle.iris_name.specs.declared.name.Name.{Name as SpecName};
 ghost use Rattle.indexmap.specs.IndexMap as map;
 ghost use Rattle.indexmap.specs.IndexSet as set;
 ghost use Rattle.iris_cache.specs.Drafted.{sets, is_set};
-ghost use Rattle.iris_cache.specs.Resident.{held, has_room};
+ghost use Rattle.iris_cache.specs.Resident.{held_node, has_room};
 
 use crate::cache::Cache;
 use crate::draft::{Change, Draft};
@@ -18,7 +18,7 @@ impl Cache {
     /// Keeps an empty place for every name that a draft sets and that isn't resident.
     pub fn room_for(&mut self, draft: &Draft) -> Result<(), NoMemory>
         ensures nodes { self.new.nodes ≡ self.old.nodes }
-        ensures kept { OnOk result ((q : SpecName) → has_room self.new q ≡ (has_room self.old q || (sets draft.now q && not (is_some (held self.old q))))) }
+        ensures kept { OnOk result ((q : SpecName) → has_room self.new q ≡ (has_room self.old q || (sets draft.now q && not (is_some (held_node self.old q))))) }
         ensures err { OnErr result (self.new ≡ self.old) }
     {
         let names = draft.changes.len();

@@ -7,7 +7,7 @@ ghost use Rattle.indexmap.specs.IndexMap.{IsUnique, spare, get};
 ghost use Rattle.iris_cache.specs.declared.held.Held.{Held as HeldRecord};
 ghost use Rattle.iris_cache.specs.Held.{points, settled_so};
 ghost use Rattle.iris_cache.specs.Rehash.{relinked, resided, rebodied, reentered, reparted, rehashed, with_hash};
-ghost use Rattle.iris_cache.specs.Resident.{held, map_if, up};
+ghost use Rattle.iris_cache.specs.Resident.{held_node, map_if, resident_parent};
 
 use crate::cache::Cache;
 use crate::held::{Edit, Held};
@@ -118,10 +118,10 @@ fn tell(nodes: &mut IndexMap<Name, Held>, at: &Name, name: &Name, hash: Hash32)
 impl Cache {
     /// Settles a node: its parent, where it is resident, holds its hash.
     pub fn set_hash(&mut self, name: &Name, hash: Hash32)
-        requires resident { IsSome (held self.old name.now) }
-        requires unsettled { IfSome (held self.old name.now) (λ h. h.settled ≡ false) }
-        requires children { (q : SpecName) (h : HeldRecord) → held self.old q ≡ Some h → h.parent ≡ Some name.now → h.settled ≡ true }
-        ensures nodes { (q : SpecName) → held self.new q ≡ map_if (points (up self.old name.now) q) (with_hash name.now hash) (map_if (same_name name.now q) settled_so (held self.old q)) }
+        requires resident { IsSome (held_node self.old name.now) }
+        requires unsettled { IfSome (held_node self.old name.now) (λ h. h.settled ≡ false) }
+        requires children { (q : SpecName) (h : HeldRecord) → held_node self.old q ≡ Some h → h.parent ≡ Some name.now → h.settled ≡ true }
+        ensures nodes { (q : SpecName) → held_node self.new q ≡ map_if (points (resident_parent self.old name.now) q) (with_hash name.now hash) (map_if (same_name name.now q) settled_so (held_node self.old q)) }
         ensures room { self.new.room ≡ self.old.room }
         ensures count { length self.new.nodes ≡ length self.old.nodes }
     {
@@ -134,7 +134,7 @@ impl Cache {
 
     // Puts the hash of a child into a node, where that is resident.
     fn retell(&mut self, at: &Name, name: &Name, hash: Hash32)
-        ensures nodes { (q : SpecName) → held self.new q ≡ map_if (same_name at.now q) (with_hash name.now hash) (held self.old q) }
+        ensures nodes { (q : SpecName) → held_node self.new q ≡ map_if (same_name at.now q) (with_hash name.now hash) (held_node self.old q) }
         ensures room { self.new.room ≡ self.old.room }
         ensures count { length self.new.nodes ≡ length self.old.nodes }
     {

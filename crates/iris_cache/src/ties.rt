@@ -5,8 +5,8 @@ ghost use Rattle.iris_name.specs.Names.{same_name};
 ghost use Rattle.iris_name.specs.declared.name.Name.{Name as SpecName};
 ghost use Rattle.iris_node.specs.Nodes.{name_of};
 ghost use Rattle.iris_cache.specs.declared.held.Held.{Held as HeldRecord};
-ghost use Rattle.iris_cache.specs.Held.{points, under, with_kids, kid_more, kid_less};
-ghost use Rattle.iris_cache.specs.Resident.{held, has_room, children, map_if, up};
+ghost use Rattle.iris_cache.specs.Held.{points, with_parent, with_kids, kid_more, kid_less};
+ghost use Rattle.iris_cache.specs.Resident.{held_node, has_room, children, map_if, resident_parent};
 
 use crate::cache::Cache;
 use crate::edits::{count_children, edit, edit_parent};
@@ -18,7 +18,7 @@ impl Cache {
     pub(crate) fn put(&mut self, mut guest: Held)
         requires room { has_room self.old (name_of guest.node) ≡ true }
         requires alone { guest.parent ≡ None }
-        ensures nodes { (q : SpecName) → held self.new q ≡ cond (same_name (name_of guest.node) q) (Some (with_kids (children self.old (name_of guest.node)) guest)) (held self.old q) }
+        ensures nodes { (q : SpecName) → held_node self.new q ≡ cond (same_name (name_of guest.node) q) (Some (with_kids (children self.old (name_of guest.node)) guest)) (held_node self.old q) }
         ensures room { (q : SpecName) → has_room self.new q ≡ cond (same_name (name_of guest.node) q) false (has_room self.old q) }
         ensures count { length self.new.nodes ≡ length self.old.nodes + 1 }
     {
@@ -33,9 +33,9 @@ impl Cache {
 
     // Hangs a resident node that has no parent under one.
     pub(crate) fn link(&mut self, name: &Name, parent: Option<Name>)
-        requires alone { (h : HeldRecord) → held self.old name.now ≡ Some h → h.parent ≡ None }
-        requires resident { IsSome (held self.old name.now) }
-        ensures nodes { (q : SpecName) → held self.new q ≡ map_if (points parent q) kid_more (map_if (same_name name.now q) (under parent) (held self.old q)) }
+        requires alone { (h : HeldRecord) → held_node self.old name.now ≡ Some h → h.parent ≡ None }
+        requires resident { IsSome (held_node self.old name.now) }
+        ensures nodes { (q : SpecName) → held_node self.new q ≡ map_if (points parent q) kid_more (map_if (same_name name.now q) (with_parent parent) (held_node self.old q)) }
         ensures room { self.new.room ≡ self.old.room }
         ensures count { length self.new.nodes ≡ length self.old.nodes }
     {
@@ -46,8 +46,8 @@ impl Cache {
 
     // Takes a resident node from its parent.
     pub(crate) fn unlink(&mut self, name: &Name)
-        requires { IsSome (held self.old name.now) }
-        ensures nodes { (q : SpecName) → held self.new q ≡ map_if (points (up self.old name.now) q) kid_less (map_if (same_name name.now q) (under None) (held self.old q)) }
+        requires { IsSome (held_node self.old name.now) }
+        ensures nodes { (q : SpecName) → held_node self.new q ≡ map_if (points (resident_parent self.old name.now) q) kid_less (map_if (same_name name.now q) (with_parent None) (held_node self.old q)) }
         ensures room { self.new.room ≡ self.old.room }
         ensures count { length self.new.nodes ≡ length self.old.nodes }
     {
@@ -58,7 +58,7 @@ impl Cache {
 
     // The parent of a resident node.
     pub(crate) fn parent_of(&self, name: &Name) -> Option<Name>
-        ensures { result ≡ up self.now name.now }
+        ensures { result ≡ resident_parent self.now name.now }
     {
         match self.nodes.get(name) {
             Some(held) => held.parent,
@@ -68,10 +68,10 @@ impl Cache {
 
     // Lets a node without a parent go.
     pub(crate) fn take(&mut self, name: &Name) -> Held
-        requires alone { (h : HeldRecord) → held self.old name.now ≡ Some h → h.parent ≡ None }
-        requires resident { IsSome (held self.old name.now) }
-        ensures node { held self.old name.now ≡ Some result }
-        ensures nodes { (q : SpecName) → held self.new q ≡ cond (same_name name.now q) None (held self.old q) }
+        requires alone { (h : HeldRecord) → held_node self.old name.now ≡ Some h → h.parent ≡ None }
+        requires resident { IsSome (held_node self.old name.now) }
+        ensures node { held_node self.old name.now ≡ Some result }
+        ensures nodes { (q : SpecName) → held_node self.new q ≡ cond (same_name name.now q) None (held_node self.old q) }
         ensures room { self.new.room ≡ self.old.room }
         ensures count { length self.new.nodes + 1 ≡ length self.old.nodes }
     {

@@ -19,17 +19,17 @@ use Rattle.iris_node.specs.declared.node.Body.TheVariants.{Dir, File as FileBody
 use Rattle.iris_node.specs.Trees.{Shown, IsTree, IsParent, IsAbove, IsNodeName, node_name, said}
 use Rattle.iris_node.specs.Unfolded.{Unfolded, Absent, Folder, Leaf, Even, Split, Stored, id_of}
 use Rattle.iris_shape.specs.Order.{Rising, Distinct}
-use Rattle.iris_shape.specs.Treap.{Treap, Over, Each, rows, treap, put, without}
+use Rattle.iris_shape.specs.Treap.{Treap, Over, Each, rows, treap, rows_with, rows_without}
 use Rattle.iris_shape.proofs.Treaps.{rows_treap}
-use Rattle.iris_cache.specs.Resident.{Resident, held}
+use Rattle.iris_cache.specs.Resident.{Resident, held_node}
 use Rattle.iris_cache.specs.Drafted.{Drafted, drafted, known, seen, known_by, there_by, taken_away, set_to}
 use Rattle.iris_cache.specs.Pictures.{IsLike, WasHash, Holds, parent_after, parent_by}
-use Rattle.iris_dirtree.specs.Counts.{count_of, counted}
+use Rattle.iris_dirtree.specs.Counts.{count_of, with_blocks}
 use Rattle.iris_dirtree.specs.Hands.{Holding, IsBelowHand, IsOut}
 use Rattle.iris_dirtree.specs.Lags.{Lags, IsUpFrom}
-use Rattle.iris_dirtree.specs.Planted.{Planted, IsOver, IsRowName, IsWithin, next, far, topped, with_top}
-use Rattle.iris_dirtree.specs.Rows.{Row, HasRows, IsFolderOf, Rearranges, IsElsewhere, has_id, row_id, row_name, row_entry, entries, below_row, refilled, arranged, up}
-use Rattle.iris_dirtree.specs.Ways.{Any, is_named}
+use Rattle.iris_dirtree.specs.Planted.{Planted, IsOver, IsRowName, IsSubtreap, next, far, topped, with_top}
+use Rattle.iris_dirtree.specs.Rows.{Row, HasRows, IsFolderOf, Rearranges, IsElsewhere, has_id, row_id, row_name, row_entry, unfolded_rows, below_row, refilled, treap_of_rows, up}
+use Rattle.iris_dirtree.specs.Ways.{Any, has_name}
 use Rattle.iris_dirtree.proofs.Likes.{Placed, Roof, roof, placed_rows}
 use Rattle.iris_dirtree.proofs.Recounts.{like_said, said_like}
 use Rattle.iris_dirtree.proofs.Refills.{lies, untouched, refilled_name, lies_named, lies_up, lies_over, refilled_counts}
@@ -48,34 +48,34 @@ pub record Moves (before after : List Row) (from to : Option Row) : Type 0 where
   pub went : (x : Row) → to ≡ Some x → Any (λ r. r ≡ x) before × (has_id x.id after ≡ false)
 
 -- a row is put in
-pub moves_in : (p : Row → Bool) (x : Row) (rows : List Row) → Distinct row_id (put p x rows) → Moves rows (put p x rows) (Some x) None
+pub moves_in : (p : Row → Bool) (x : Row) (rows : List Row) → Distinct row_id (rows_with p x rows) → Moves rows (rows_with p x rows) (Some x) None
 moves_in p x rows distinct = record {
-  same = λ a b h k e. distinct_same (put p x rows) a b distinct (put_in p x rows a h) k e;
+  same = λ a b h k e. distinct_same (rows_with p x rows) a b distinct (put_in p x rows a h) k e;
   comes = λ y h none. elim (in_put p x rows y h) [ inl e ↦ ap Some e | inr k ↦ absurd (true≢false (sym (has_in rows y k) ∙ none)) ];
-  came = λ y e. subst (λ z. IsIn z (put p x rows)) (one_of x y e) (put_here p x rows);
-  goes = λ y h none. absurd (true≢false (sym (has_in (put p x rows) y (put_in p x rows y h)) ∙ none));
+  came = λ y e. subst (λ z. IsIn z (rows_with p x rows)) (one_of x y e) (put_here p x rows);
+  goes = λ y h none. absurd (true≢false (sym (has_in (rows_with p x rows) y (put_in p x rows y h)) ∙ none));
   went = λ y e. absurd (true≢false (sym (ap is_some e)));
 }
 
 -- a row is taken out
-pub moves_out : (x : Row) (rows : List Row) → Rising row_name rows → Distinct row_id rows → Any (λ r. r ≡ x) rows → Moves rows (without (is_named x.name) rows) None (Some x)
+pub moves_out : (x : Row) (rows : List Row) → Rising row_name rows → Distinct row_id rows → Any (λ r. r ≡ x) rows → Moves rows (rows_without (has_name x.name) rows) None (Some x)
 moves_out x rows rising distinct in_rows = record {
-  same = λ a b h k e. distinct_same rows a b distinct h (in_without (is_named x.name) rows b k).0 e;
-  comes = λ y h none. absurd (true≢false (sym (has_in rows y (in_without (is_named x.name) rows y h).0) ∙ none));
+  same = λ a b h k e. distinct_same rows a b distinct h (in_without (has_name x.name) rows b k).0 e;
+  comes = λ y h none. absurd (true≢false (sym (has_in rows y (in_without (has_name x.name) rows y h).0) ∙ none));
   came = λ y e. absurd (true≢false (sym (ap is_some e)));
-  goes = λ y h none. ap Some (named_same rows x y rising in_rows h (named y h none (is_named x.name y) refl));
-  went = λ y e. (let f = one_of x y e in (subst (λ z. IsIn z rows) f in_rows, ap (λ z. has_id z.id (without (is_named x.name) rows)) (sym f) ∙ away (has_id x.id (without (is_named x.name) rows)) refl));
+  goes = λ y h none. ap Some (named_same rows x y rising in_rows h (named y h none (has_name x.name y) refl));
+  went = λ y e. (let f = one_of x y e in (subst (λ z. IsIn z rows) f in_rows, ap (λ z. has_id z.id (rows_without (has_name x.name) rows)) (sym f) ∙ away (has_id x.id (rows_without (has_name x.name) rows)) refl));
 }
   where
-    named : (y : Row) → IsIn y rows → has_id y.id (without (is_named x.name) rows) ≡ false → (b : Bool) → is_named x.name y ≡ b → is_named x.name y ≡ true
+    named : (y : Row) → IsIn y rows → has_id y.id (rows_without (has_name x.name) rows) ≡ false → (b : Bool) → has_name x.name y ≡ b → has_name x.name y ≡ true
     named y h none true e = e
-    named y h none false e = absurd (true≢false (sym (has_in (without (is_named x.name) rows) y (without_in (is_named x.name) rows y h e)) ∙ none))
+    named y h none false e = absurd (true≢false (sym (has_in (rows_without (has_name x.name) rows) y (without_in (has_name x.name) rows y h e)) ∙ none))
 
-    away : (b : Bool) → has_id x.id (without (is_named x.name) rows) ≡ b → has_id x.id (without (is_named x.name) rows) ≡ false
+    away : (b : Bool) → has_id x.id (rows_without (has_name x.name) rows) ≡ b → has_id x.id (rows_without (has_name x.name) rows) ≡ false
     away true e =
-        let r = in_has (without (is_named x.name) rows) x.id e in
-        let k = in_without (is_named x.name) rows r.0 r.1 in
-        absurd (true≢false (sym (named_self x) ∙ ap (is_named x.name) (sym (distinct_same rows r.0 x distinct k.0 in_rows r.2)) ∙ k.1))
+        let r = in_has (rows_without (has_name x.name) rows) x.id e in
+        let k = in_without (has_name x.name) rows r.0 r.1 in
+        absurd (true≢false (sym (named_self x) ∙ ap (has_name x.name) (sym (distinct_same rows r.0 x distinct k.0 in_rows r.2)) ∙ k.1))
     away false e = e
 
 -- ---- names of a table
@@ -162,12 +162,12 @@ module _ (old new made : Shown) (from to : Option Row) (key : List ℕ) (dir : F
   top = name.Entry dir
 
   abbrev inside : Unfolded
-  inside = arranged key after
+  inside = treap_of_rows key after
 
-  was : Roof new dir (entries t)
+  was : Roof new dir (unfolded_rows t)
   was = roof new key dir before has
 
-  now : Roof made dir (entries u)
+  now : Roof made dir (unfolded_rows u)
   now = roof made key dir after rearranges.rows
 
   was-placed : Placed new t
@@ -189,16 +189,16 @@ module _ (old new made : Shown) (from to : Option Row) (key : List ℕ) (dir : F
   now-row : (y : Row) → IsIn y after → Within u y
   now-row y h = rows_within u y (subst (IsIn y) (sym (rows_treap (up key) after)) h)
 
-  row-was : (y : Row) (l m : Treap Row) → IsWithin (Over y l m) t → IsIn y before
+  row-was : (y : Row) (l m : Treap Row) → IsSubtreap (Over y l m) t → IsIn y before
   row-was y l m h = subst (IsIn y) (rows_treap (up key) before) (within_rows t y l m h)
 
-  row-now : (y : Row) (l m : Treap Row) → IsWithin (Over y l m) u → IsIn y after
+  row-now : (y : Row) (l m : Treap Row) → IsSubtreap (Over y l m) u → IsIn y after
   row-now y l m h = subst (IsIn y) (rows_treap (up key) after) (within_rows u y l m h)
 
-  was-live : (y : Row) (w : Within t y) → new (name.Entry (id_of y.id)) ≡ Some (row_entry y (entries w.less) (entries w.more))
+  was-live : (y : Row) (w : Within t y) → new (name.Entry (id_of y.id)) ≡ Some (row_entry y (unfolded_rows w.less) (unfolded_rows w.more))
   was-live y w = placed_at new t (Over y w.less w.more) was-placed w.within
 
-  now-live : (y : Row) (w : Within u y) → made (name.Entry (id_of y.id)) ≡ Some (row_entry y (entries w.less) (entries w.more))
+  now-live : (y : Row) (w : Within u y) → made (name.Entry (id_of y.id)) ≡ Some (row_entry y (unfolded_rows w.less) (unfolded_rows w.more))
   now-live y w = placed_at made u (Over y w.less w.more) now-placed w.within
 
   -- the directory stands above its rows
@@ -295,12 +295,12 @@ module _ (old new made : Shown) (from to : Option Row) (key : List ℕ) (dir : F
   IsRow xs n = (y : Row) × IsIn y xs × (n ≡ name.Entry (id_of y.id))
 
   inside-row : (n : Name) → node_name inside ≡ Some n → IsRow after n
-  unfolding arranged
-  inside-row n h = let r = entries_topped u n h in (r.row, row-now r.row r.less r.more (subst (IsWithin (Over r.row r.less r.more)) (sym r.is) (inl refl)), r.named)
+  unfolding treap_of_rows
+  inside-row n h = let r = entries_topped u n h in (r.row, row-now r.row r.less r.more (subst (IsSubtreap (Over r.row r.less r.more)) (sym r.is) (inl refl)), r.named)
 
-  was-inside-row : (n : Name) → node_name (arranged key before) ≡ Some n → IsRow before n
-  unfolding arranged
-  was-inside-row n h = let r = entries_topped t n h in (r.row, row-was r.row r.less r.more (subst (IsWithin (Over r.row r.less r.more)) (sym r.is) (inl refl)), r.named)
+  was-inside-row : (n : Name) → node_name (treap_of_rows key before) ≡ Some n → IsRow before n
+  unfolding treap_of_rows
+  was-inside-row n h = let r = entries_topped t n h in (r.row, row-was r.row r.less r.more (subst (IsSubtreap (Over r.row r.less r.more)) (sym r.is) (inl refl)), r.named)
 
   from-made : (o : Option Unfolded) (x : Unfolded) → option_map (refilled dir.0 inside) o ≡ Some x → (v : Unfolded) × (o ≡ Some v) × (refilled dir.0 inside v ≡ x)
   from-made None x h = absurd (true≢false (sym (ap is_some h)))
@@ -319,16 +319,16 @@ module _ (old new made : Shown) (from to : Option Row) (key : List ℕ) (dir : F
     | inl x ↦ inl (record { parent = refilled dir.0 inside parent.parent; child = x.0; live = made-else p h ∙ ap (option_map (refilled dir.0 inside)) parent.live; above = x.1; named = x.2 ∙ parent.named })
     | inr x ↦ inr (
         let at : top ≡ p = is.own p top parent.parent parent.live x.0 in
-        let folder : IsFolderOf dir.0 (arranged key before) (Some parent.parent) = subst (IsFolderOf dir.0 (arranged key before)) (ap new at ∙ parent.live) has.entry in
-        was-inside-row n (ap node_name (sym (x.1 (arranged key before) folder)) ∙ parent.named))
+        let folder : IsFolderOf dir.0 (treap_of_rows key before) (Some parent.parent) = subst (IsFolderOf dir.0 (treap_of_rows key before)) (ap new at ∙ parent.live) has.entry in
+        was-inside-row n (ap node_name (sym (x.1 (treap_of_rows key before) folder)) ∙ parent.named))
   ]
 
   -- what stands below a row: another row, or what is below it by itself
-  row-child : (s : Shown) (x : Treap Row) (y : Row) (w : Within x y) (n : Name) → s (name.Entry (id_of y.id)) ≡ Some (row_entry y (entries w.less) (entries w.more)) → IsParent s (name.Entry (id_of y.id)) n
+  row-child : (s : Shown) (x : Treap Row) (y : Row) (w : Within x y) (n : Name) → s (name.Entry (id_of y.id)) ≡ Some (row_entry y (unfolded_rows w.less) (unfolded_rows w.more)) → IsParent s (name.Entry (id_of y.id)) n
       → ((z : Row) × Within x z × (n ≡ name.Entry (id_of z.id))) ⊎ (node_name (below_row y.content) ≡ Some n)
   row-child s x y w n live parent =
-      let at : row_entry y (entries w.less) (entries w.more) ≡ parent.parent = one_of _ _ (sym live ∙ parent.live) in
-      elim (above_row y.id y.name y.content (entries w.less) (entries w.more) parent.child (subst (λ v. IsAbove v parent.child) (sym at) parent.above)) [
+      let at : row_entry y (unfolded_rows w.less) (unfolded_rows w.more) ≡ parent.parent = one_of _ _ (sym live ∙ parent.live) in
+      elim (above_row y.id y.name y.content (unfolded_rows w.less) (unfolded_rows w.more) parent.child (subst (λ v. IsAbove v parent.child) (sym at) parent.above)) [
         | inl f ↦ inl (let r = entries_topped w.less n (ap node_name (sym f) ∙ parent.named) in (r.row, record { less = r.less; more = r.more; within = less_within y w.less w.more x r.row r.less r.more r.is w.within }, r.named))
         | inr g ↦ elim g [
           | inl f ↦ inl (let r = entries_topped w.more n (ap node_name (sym f) ∙ parent.named) in (r.row, record { less = r.less; more = r.more; within = more_within y w.less w.more x r.row r.less r.more r.is w.within }, r.named))
@@ -366,7 +366,7 @@ module _ (old new made : Shown) (from to : Option Row) (key : List ℕ) (dir : F
           elim (row-child made u y w n (now-live y w) (subst (λ m. IsParent made m n) x parent)) [
             | inl r ↦ absurd (no-row n h (r.0, row-now r.0 r.1.less r.1.more r.1.within, r.2))
             | inr g ↦ elim (row-before y k) [
-              | inl b ↦ inl (let v = was-row y b in subst (λ m. IsParent new m n) (sym x) (content-parent new y (entries v.less) (entries v.more) n (was-live y v) g))
+              | inl b ↦ inl (let v = was-row y b in subst (λ m. IsParent new m n) (sym x) (content-parent new y (unfolded_rows v.less) (unfolded_rows v.more) n (was-live y v) g))
               | inr b ↦ inr (below-hand y from p n b x g)
             ]
           ]
@@ -392,7 +392,7 @@ module _ (old new made : Shown) (from to : Option Row) (key : List ℕ) (dir : F
       by : Place dir before after p → IsParent made p n ⊎ IsBelowHand to p n
       by (AtDir x) = so (subst (IsElsewhere before after) (sym x) dir-else)
       by (AtRow y k x) = elim (row-before y k) [
-        | inl b ↦ inl (let w = now-row y k in subst (λ m. IsParent made m n) (sym x) (content-parent made y (entries w.less) (entries w.more) n (now-live y w) (content y b x)))
+        | inl b ↦ inl (let w = now-row y k in subst (λ m. IsParent made m n) (sym x) (content-parent made y (unfolded_rows w.less) (unfolded_rows w.more) n (now-live y w) (content y b x)))
         | inr b ↦ absurd (true≢false (sym (ap is_some (sym (ap new x ∙ hand-none y b) ∙ parent.live))))
       ]
       by (AtGone y k x g) = inr (below-hand y to p n (moves.goes y k g) x (content y k x))
@@ -404,7 +404,7 @@ module _ (old new made : Shown) (from to : Option Row) (key : List ℕ) (dir : F
   hand-parent p n h =
       let r = hand-row from p n h in
       let w = now-row r.0 (moves.came r.0 r.1) in
-      subst (λ m. IsParent made m n) (sym r.2) (content-parent made r.0 (entries w.less) (entries w.more) n (now-live r.0 w) r.3)
+      subst (λ m. IsParent made m n) (sym r.2) (content-parent made r.0 (unfolded_rows w.less) (unfolded_rows w.more) n (now-live r.0 w) r.3)
 
   -- ---- what the draft says of each name
 
@@ -424,13 +424,13 @@ module _ (old new made : Shown) (from to : Option Row) (key : List ℕ) (dir : F
   drafted-else n off h = planted.others n (λ r. no-row-was n h (row-in-was n r)) (λ r. no-row n h (row-in-now n r)) (λ x. true≢false (sym (ap (same_name top) x ∙ same_name-refl top) ∙ off))
 
   seen-same : (n : Name) → drafted e n ≡ drafted d n → seen e c n ≡ seen d c n
-  seen-same n x = ap (λ o. there_by (known_by o (held c n))) x
+  seen-same n x = ap (λ o. there_by (known_by o (held_node c n))) x
 
   known-same : (n : Name) → drafted e n ≡ drafted d n → known e c n ≡ known d c n
-  known-same n x = ap (λ o. known_by o (held c n)) x
+  known-same n x = ap (λ o. known_by o (held_node c n)) x
 
   parent-same : (n : Name) → drafted e n ≡ drafted d n → parent_after e c n ≡ parent_after d c n
-  parent-same n x = ap (λ o. parent_by o (held c n)) x
+  parent-same n x = ap (λ o. parent_by o (held_node c n)) x
 
   drafted-block : (f : FileId) (k : ℕ) → drafted e (name.Block f k) ≡ drafted d (name.Block f k)
   drafted-block f k = planted.others (name.Block f k) (λ r. none-was (row-in-was (name.Block f k) r).2) (λ r. none-was (row-in-now (name.Block f k) r).2) (none-was)
@@ -454,7 +454,7 @@ module _ (old new made : Shown) (from to : Option Row) (key : List ℕ) (dir : F
 
   -- ---- the directory's entry
 
-  entry-of : (o : Option Unfolded) (g : Node) → IsFolderOf dir.0 (arranged key before) o → IsLike o g → (x : EntryFields) × (g ≡ node.Entry x)
+  entry-of : (o : Option Unfolded) (g : Node) → IsFolderOf dir.0 (treap_of_rows key before) o → IsLike o g → (x : EntryFields) × (g ≡ node.Entry x)
   entry-of o (node.Entry x) f like = (x, refl)
   entry-of None (node.Part x) f like = absurd f
   entry-of (Some (Folder id label less more kept)) (node.Part x) f like = cc
@@ -474,10 +474,10 @@ module _ (old new made : Shown) (from to : Option Row) (key : List ℕ) (dir : F
   top-drafted = planted.entry top-was.0 top-was.1
 
   top-seen : seen e c top ≡ Some top-node
-  top-seen = ap (λ o. there_by (known_by o (held c top))) top-drafted
+  top-seen = ap (λ o. there_by (known_by o (held_node c top))) top-drafted
 
   top-parent : parent_after e c top ≡ parent_after d c top
-  top-parent = ap (λ o. parent_by o (held c top)) top-drafted
+  top-parent = ap (λ o. parent_by o (held_node c top)) top-drafted
 
   -- ---- what is seen stays so
 
@@ -509,27 +509,27 @@ module _ (old new made : Shown) (from to : Option Row) (key : List ℕ) (dir : F
   same-entry : dir.0 == dir.0 ≡ true
   same-entry = eq-eqb dir.0 dir.0 refl
 
-  beside-same : (w : Unfolded) → IsAbove (refilled dir.0 inside (Folder dir.0 was.label was.less was.more (entries t))) (refilled dir.0 inside w) → refilled dir.0 inside w ≡ w
+  beside-same : (w : Unfolded) → IsAbove (refilled dir.0 inside (Folder dir.0 was.label was.less was.more (unfolded_rows t))) (refilled dir.0 inside w) → refilled dir.0 inside w ≡ w
   beside-same w h = by (lies dir.0 w) refl
     where
       by : (b : Bool) → lies dir.0 w ≡ b → refilled dir.0 inside w ≡ w
       by false f = untouched dir.0 inside w f
-      by true f = absurd (never_over made made_is top top (lies_over made made_is dir.0 inside w top (refilled dir.0 inside (Folder dir.0 was.label was.less was.more (entries t))) f
+      by true f = absurd (never_over made made_is top top (lies_over made made_is dir.0 inside w top (refilled dir.0 inside (Folder dir.0 was.label was.less was.more (unfolded_rows t))) f
           (made-else top dir-else ∙ ap (option_map (refilled dir.0 inside)) (was.live ∙ ap Some was.is)) h) refl)
 
-  top-is : made top ≡ Some (Folder dir.0 was.label was.less was.more (entries u))
-  unfolding arranged
+  top-is : made top ≡ Some (Folder dir.0 was.label was.less was.more (unfolded_rows u))
+  unfolding treap_of_rows
   top-is =
       let a = beside-same was.less (inl refl) in
       let b = beside-same was.more (inr (inl refl)) in
-      let k : (if dir.0 == dir.0 then inside else refilled dir.0 inside (entries t)) ≡ entries u = ap (λ z. if z then inside else refilled dir.0 inside (entries t)) same-entry in
+      let k : (if dir.0 == dir.0 then inside else refilled dir.0 inside (unfolded_rows t)) ≡ unfolded_rows u = ap (λ z. if z then inside else refilled dir.0 inside (unfolded_rows t)) same-entry in
       made-else top dir-else ∙ ap (option_map (refilled dir.0 inside)) (was.live ∙ ap Some was.is) ∙ (λ z. Some (Folder dir.0 was.label (a z) (b z) (k z)))
 
   top-like : IsLike (made top) top-node
   top-like =
       let old-like = like_said (new top) (node.Entry top-was.0) (holding.nodes top (node.Entry top-was.0) top-was.1) in
       let old-local = sym (ap said (was.live ∙ ap Some was.is)) ∙ old-like in
-      said_like (made top) top-node (ap said top-is ∙ dir-like dir.0 was.label was.less was.more (entries t) (entries u) top-was.0 top-was.0.body planted.top old-local planted.leads)
+      said_like (made top) top-node (ap said top-is ∙ dir-like dir.0 was.label was.less was.more (unfolded_rows t) (unfolded_rows u) top-was.0 top-was.0.body planted.top old-local planted.leads)
 
   -- what is neither at nor above the directory, nor a row, is the same in both tables
   else-same : (n : Name) → same_name top n ≡ false → IsElsewhere before after n → (IsOver made n top → ⊥) → made n ≡ new n
@@ -550,7 +550,7 @@ module _ (old new made : Shown) (from to : Option Row) (key : List ℕ) (dir : F
       by (Some v) live = made-else n h ∙ ap (option_map (refilled dir.0 inside)) live ∙ ap Some (lying v (lies dir.0 v) live refl) ∙ sym live
 
   unseen-gone : (n : Name) → drafted e n ≡ Some taken_away → seen e c n ≡ None
-  unseen-gone n x = ap (λ o. there_by (known_by o (held c n))) x
+  unseen-gone n x = ap (λ o. there_by (known_by o (held_node c n))) x
 
   nodes-all : (n : Name) (g : Node) → seen e c n ≡ Some g → (IsOver made n top → ⊥) → IsLike (made n) g
   nodes-all n g s free = by (place dir before after n)
@@ -567,7 +567,7 @@ module _ (old new made : Shown) (from to : Option Row) (key : List ℕ) (dir : F
   above-all : (n : Name) (g : Node) → seen e c n ≡ Some g → IsOver made n top → IsLike (new n) g
   above-all n g s o = let h = over-else n o in holding.nodes n g (sym (seen-same n (drafted-else n h.0 h.1)) ∙ s)
 
-  counts-all : (p q : Name) → IsParent made p q → IsUpFrom made top q → said (made p) ≡ option_map (counted q (count_of (made q))) (said (new p))
+  counts-all : (p q : Name) → IsParent made p q → IsUpFrom made top q → said (made p) ≡ option_map (with_blocks q (count_of (made q))) (said (new p))
   counts-all p q parent way =
       let over : IsOver made p top = elim way [ inl x ↦ subst (IsOver made p) x (next p q parent) | inr o ↦ over_through made p q top (next p q parent) o ] in
       let h = over-else p over in
@@ -575,7 +575,7 @@ module _ (old new made : Shown) (from to : Option Row) (key : List ℕ) (dir : F
       let live : made p ≡ Some (refilled dir.0 inside v.0) = parent.live ∙ ap Some (sym v.2) in
       let named = above-named parent.parent parent.child parent.above in
       let own : node_name v.0 ≡ Some p = sym (refilled_name dir.0 inside v.0) ∙ ap node_name v.2 ∙ named.1 ∙ ap Some (made_is.own p named.0 parent.parent parent.live named.1) in
-      ap said live ∙ refilled_counts made made_is dir.0 inside v.0 p q live own (never_over made made_is p top over) parent way ∙ ap (λ o. option_map (counted q (count_of (made q))) (said o)) (sym v.1)
+      ap said live ∙ refilled_counts made made_is dir.0 inside v.0 p q live own (never_over made made_is p top over) parent way ∙ ap (λ o. option_map (with_blocks q (count_of (made q))) (said o)) (sym v.1)
 
   hashes-all : (n m : Name) (g : Node) (h : Hash32) → seen e c n ≡ Some g → Holds g m h → WasHash old c m h
   hashes-all n m g h s holds = by (place dir before after n)
@@ -642,7 +642,7 @@ module _ (old new made : Shown) (from to : Option Row) (key : List ℕ) (dir : F
       let y = hand-row to p n below in
       let y-in = (moves.went y.0 y.1).0 in
       let w = was-row y.0 y-in in
-      let parent : IsParent new p n = subst (λ m. IsParent new m n) (sym y.2) (content-parent new y.0 (entries w.less) (entries w.more) n (was-live y.0 w) y.3) in
+      let parent : IsParent new p n = subst (λ m. IsParent new m n) (sym y.2) (content-parent new y.0 (unfolded_rows w.less) (unfolded_rows w.more) n (was-live y.0 w) y.3) in
       elim (seen-place n g s) [
         | inl r ↦ elim (row-before r.0 r.1) [
           | inl b ↦ absurd (each_in (λ z. node_name (below_row y.0.content) ≢ Some (name.Entry (id_of z.id))) before r.0 b
@@ -703,7 +703,7 @@ module _ (old new made : Shown) (from to : Option Row) (key : List ℕ) (dir : F
             ap made x ∙ now-live y w ∙ sym live ∙ ap new (sym x) ∙ holding.away n node-name (sym (known-same n same) ∙ k))
         | inr h ↦ absurd (known-not n k (sees-hand y n h x))
       ]
-      by (AtGone y b x f) = absurd (true≢false (sym (ap is_some (sym k ∙ ap (λ o. known_by o (held c n)) (gone-seen y n b x f)))))
+      by (AtGone y b x f) = absurd (true≢false (sym (ap is_some (sym k ∙ ap (λ o. known_by o (held_node c n)) (gone-seen y n b x f)))))
       by (AtElse off h) = else-same n off h (λ o. known-not n k (sees-over n top o (is_there (seen e c top) top-node top-seen))) ∙ holding.away n node-name (sym (known-same n (drafted-else n off h)) ∙ k)
       by (AtBlock f b x) = absurd (subst IsNodeName x node-name)
 

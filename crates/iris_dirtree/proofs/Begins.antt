@@ -22,11 +22,11 @@ use Rattle.iris_cache.specs.Drafted.{Drafted, seen, known, there_by}
 use Rattle.iris_cache.specs.Pictures.{Holds, BodyHolds, IsLike}
 use Rattle.iris_cache.proofs.Lacking.{unknown}
 use Rattle.iris_dirtree.specs.Descents.{IsWantedLink, WantsBelow, Seeking, IsStop}
-use Rattle.iris_dirtree.specs.Found.{entry_in, inside, body_inside}
+use Rattle.iris_dirtree.specs.Found.{as_entry, inside, body_inside}
 use Rattle.iris_dirtree.specs.Needs.{Listed, Lacks, IsShort, IsDirectory}
 use Rattle.iris_dirtree.specs.Nodes.{dir_top, body_top, IsTopLack}
-use Rattle.iris_dirtree.specs.Planted.{IsWithin}
-use Rattle.iris_dirtree.specs.Rows.{Row, HasRows, entries, row_entry, up}
+use Rattle.iris_dirtree.specs.Planted.{IsSubtreap}
+use Rattle.iris_dirtree.specs.Rows.{Row, HasRows, unfolded_rows, row_entry, up}
 use Rattle.iris_dirtree.specs.Steps.{entry_name, Seated, Outside}
 use Rattle.iris_dirtree.proofs.Likes.{Placed, placed_rows, top_parent, above_less, above_more, roof, like_row}
 use Rattle.iris_dirtree.specs.Reached.{size}
@@ -34,7 +34,7 @@ use Rattle.iris_dirtree.proofs.Sizes.{above_larger}
 use Rattle.iris_dirtree.proofs.Sees.{Sees, sees_drafts, wanted, root_wanted}
 use Rattle.iris_dirtree.proofs.Stands.{led_named, link_holds, top_way, root_name}
 
-top_inside : (o : Option Node) (top : Option Link) → dir_top o ≡ Some top → top ≡ inside (entry_in o)
+top_inside : (o : Option Node) (top : Option Link) → dir_top o ≡ Some top → top ≡ inside (as_entry o)
 top_inside None top h = cc
 top_inside (Some (node.Part p)) top h = cc
 top_inside (Some (node.Entry e)) top h = by e.body h
@@ -64,17 +64,17 @@ seen_known (Some o) x h = refl
 
 module _ (old new : Shown) (c : Resident) (d : Drafted) (see : Sees old new d c) where
   module _ (t : Treap Row) where
-    pub seated_of : (w : Treap Row) (p : Name) (u : Unfolded) → Placed new w → new p ≡ Some u → IsAbove u (entries w) → ((v : Treap Row) → IsWithin v w → IsWithin v t) → Seated old c t d p w
+    pub seated_of : (w : Treap Row) (p : Name) (u : Unfolded) → Placed new w → new p ≡ Some u → IsAbove u (unfolded_rows w) → ((v : Treap Row) → IsSubtreap v w → IsSubtreap v t) → Seated old c t d p w
     seated_of Empty p u h live above within = tt
     seated_of (Over y l m) p u h live above within =
         let n = entry_name y in
-        let e = entries (Over y l m) in (
+        let e = unfolded_rows (Over y l m) in (
           (λ node at.
               let up = see.parents n p node at (top_parent new p u y l m live above) in
               record { like = subst (λ o. IsLike o node) h.0 (see.nodes n node at); parent = up.0; there = up.1; hashes = λ m x holds. see.hashes n m node x at holds }),
           (λ none. within (Over y l m) (inl refl)),
-          seated_of l n e h.1 h.0 (above_less y.id y.name y.content (entries l) (entries m)) (λ v k. within v (inr (inl k))),
-          seated_of m n e h.2 h.0 (above_more y.id y.name y.content (entries l) (entries m)) (λ v k. within v (inr (inr k))),
+          seated_of l n e h.1 h.0 (above_less y.id y.name y.content (unfolded_rows l) (unfolded_rows m)) (λ v k. within v (inr (inl k))),
+          seated_of m n e h.2 h.0 (above_more y.id y.name y.content (unfolded_rows l) (unfolded_rows m)) (λ v k. within v (inr (inr k))),
         )
 
   link_wanted : (n : Name) (u : Unfolded) (x : Node) (k : Option Link) (v : Unfolded) → new n ≡ Some u → IsAbove u v → seen d c n ≡ Some x → led_by k ≡ led v → ((l : Link) → k ≡ Some l → Holds x (name.Entry l.id) l.hash) → IsWantedLink old new c d k
@@ -88,10 +88,10 @@ module _ (old new : Shown) (c : Resident) (d : Drafted) (see : Sees old new d c)
   wants_of (Over y l m) h = (
     (λ e at.
         let n = entry_name y in
-        let u = row_entry y (entries l) (entries m) in
-        let like = like_row y (entries l) (entries m) e (subst (λ o. IsLike o (node.Entry e)) h.0 (see.nodes n (node.Entry e) at)) in (
-          link_wanted n u (node.Entry e) e.left (entries l) h.0 (above_less y.id y.name y.content (entries l) (entries m)) at like.left_is (λ k q. inl (link_holds e.left k q)),
-          link_wanted n u (node.Entry e) e.right (entries m) h.0 (above_more y.id y.name y.content (entries l) (entries m)) at like.right_is (λ k q. inr (inl (link_holds e.right k q))),
+        let u = row_entry y (unfolded_rows l) (unfolded_rows m) in
+        let like = like_row y (unfolded_rows l) (unfolded_rows m) e (subst (λ o. IsLike o (node.Entry e)) h.0 (see.nodes n (node.Entry e) at)) in (
+          link_wanted n u (node.Entry e) e.left (unfolded_rows l) h.0 (above_less y.id y.name y.content (unfolded_rows l) (unfolded_rows m)) at like.left_is (λ k q. inl (link_holds e.left k q)),
+          link_wanted n u (node.Entry e) e.right (unfolded_rows m) h.0 (above_more y.id y.name y.content (unfolded_rows l) (unfolded_rows m)) at like.right_is (λ k q. inr (inl (link_holds e.right k q))),
         )),
     wants_of l h.1,
     wants_of m h.2,
@@ -151,12 +151,12 @@ top_short key dir d c met (Need n x) lack =
 some_same : (a b : Unfolded) → Some a ≡ Some b → size a ≡ size b
 some_same a b h = let e : a ≡ b = cc in ap size e
 
-apart_by : (new : Shown) (n : Name) (u : Unfolded) → new n ≡ Some u → (w : Treap Row) → Placed new w → size (entries w) < size u → Outside n w
+apart_by : (new : Shown) (n : Name) (u : Unfolded) → new n ≡ Some u → (w : Treap Row) → Placed new w → size (unfolded_rows w) < size u → Outside n w
 apart_by new n u live Empty h lt = tt
 apart_by new n u live (Over y l m) h lt =
-    let a = above_larger (entries (Over y l m)) (entries l) (above_less y.id y.name y.content (entries l) (entries m)) in
-    let b = above_larger (entries (Over y l m)) (entries m) (above_more y.id y.name y.content (entries l) (entries m)) in (
-      (λ e. let s = some_same u (entries (Over y l m)) (sym live ∙ ap new e ∙ h.0) in absurd (omega (arith, s, lt))),
+    let a = above_larger (unfolded_rows (Over y l m)) (unfolded_rows l) (above_less y.id y.name y.content (unfolded_rows l) (unfolded_rows m)) in
+    let b = above_larger (unfolded_rows (Over y l m)) (unfolded_rows m) (above_more y.id y.name y.content (unfolded_rows l) (unfolded_rows m)) in (
+      (λ e. let s = some_same u (unfolded_rows (Over y l m)) (sym live ∙ ap new e ∙ h.0) in absurd (omega (arith, s, lt))),
       apart_by new n u live l h.1 (omega (arith, a, lt)),
       apart_by new n u live m h.2 (omega (arith, b, lt)),
     )
@@ -164,4 +164,4 @@ apart_by new n u live (Over y l m) h lt =
 pub dir_apart : (new : Shown) (key : List ℕ) (dir : FileId) (all : List Row) → IsTree new → HasRows new key dir all → Outside (name.Entry dir) (treap (up key) all)
 dir_apart new key dir all is has =
     let r = roof new key dir all has in
-    apart_by new (name.Entry dir) r.entry r.live (treap (up key) all) (placed_rows new key dir all is has) (above_larger r.entry (entries (treap (up key) all)) r.above)
+    apart_by new (name.Entry dir) r.entry r.live (treap (up key) all) (placed_rows new key dir all is has) (above_larger r.entry (unfolded_rows (treap (up key) all)) r.above)

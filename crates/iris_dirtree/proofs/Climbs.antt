@@ -20,8 +20,8 @@ use Rattle.iris_cache.specs.Pictures.{Holds, IsLike, parent_after}
 use Rattle.iris_dirtree.specs.declared.removing.Crumb.{Crumb}
 use Rattle.iris_dirtree.specs.Counts.{IsEntryName}
 use Rattle.iris_dirtree.specs.Nodes.{IsPut, turned, LinksTo}
-use Rattle.iris_dirtree.specs.Planted.{IsWithin}
-use Rattle.iris_dirtree.specs.Rows.{Row, entries}
+use Rattle.iris_dirtree.specs.Planted.{IsSubtreap}
+use Rattle.iris_dirtree.specs.Rows.{Row, unfolded_rows}
 use Rattle.iris_dirtree.specs.Steps.{Fork, forked, under, entry_name, above, crumb_above, WasHash, Seat, Seated, Leads, IsCrumb, AreCrumbs, Outside, Once, Rising}
 use Rattle.iris_dirtree.proofs.Likes.{like_row}
 use Rattle.iris_dirtree.proofs.Owned.{seen_same, parent_same, put_seen, put_parent, put_other, still_seen, put_off}
@@ -58,12 +58,12 @@ module _ (old : Shown) (c : Resident) (t : Treap Row) where
         seated_same d e n m h.2 stays s.3,
       )
 
-  pub seated_over : (f : Drafted) (q : Name) (x : Fork) (w : Treap Row) → ((node : Node) → seen f c (entry_name x.row) ≡ Some node → Seat old c f q (entry_name x.row) (entries (forked x w)) node)
-      → (seen f c (entry_name x.row) ≡ None → IsWithin (forked x w) t) → Seated old c t f (entry_name x.row) x.other → Seated old c t f (entry_name x.row) w → Seated old c t f q (forked x w)
+  pub seated_over : (f : Drafted) (q : Name) (x : Fork) (w : Treap Row) → ((node : Node) → seen f c (entry_name x.row) ≡ Some node → Seat old c f q (entry_name x.row) (unfolded_rows (forked x w)) node)
+      → (seen f c (entry_name x.row) ≡ None → IsSubtreap (forked x w) t) → Seated old c t f (entry_name x.row) x.other → Seated old c t f (entry_name x.row) w → Seated old c t f q (forked x w)
   seated_over f q x w seat away other below = by x.right seat away
     where
-      by : (r : Bool) → ((node : Node) → seen f c (entry_name x.row) ≡ Some node → Seat old c f q (entry_name x.row) (entries (cond r (Over x.row x.other w) (Over x.row w x.other))) node)
-          → (seen f c (entry_name x.row) ≡ None → IsWithin (cond r (Over x.row x.other w) (Over x.row w x.other)) t) → Seated old c t f q (cond r (Over x.row x.other w) (Over x.row w x.other))
+      by : (r : Bool) → ((node : Node) → seen f c (entry_name x.row) ≡ Some node → Seat old c f q (entry_name x.row) (unfolded_rows (cond r (Over x.row x.other w) (Over x.row w x.other))) node)
+          → (seen f c (entry_name x.row) ≡ None → IsSubtreap (cond r (Over x.row x.other w) (Over x.row w x.other)) t) → Seated old c t f q (cond r (Over x.row x.other w) (Over x.row w x.other))
       by true g h = (g, h, other, below)
       by false g h = (g, h, below, other)
 
@@ -72,9 +72,9 @@ module _ (old : Shown) (c : Resident) (t : Treap Row) where
   pub crumb_id : (d : Drafted) (x : Fork) (e : Crumb) → IsCrumb old c t d x e → name.Entry e.node.id ≡ entry_name x.row
   crumb_id d x e h = by x.right h.like
     where
-      by : (r : Bool) → IsLike (Some (entries (cond r (Over x.row x.other h.side) (Over x.row h.side x.other)))) (node.Entry e.node) → name.Entry e.node.id ≡ entry_name x.row
-      by true g = ap (λ i. name.Entry (id_of i)) (like_row x.row (entries x.other) (entries h.side) e.node g).id_is
-      by false g = ap (λ i. name.Entry (id_of i)) (like_row x.row (entries h.side) (entries x.other) e.node g).id_is
+      by : (r : Bool) → IsLike (Some (unfolded_rows (cond r (Over x.row x.other h.side) (Over x.row h.side x.other)))) (node.Entry e.node) → name.Entry e.node.id ≡ entry_name x.row
+      by true g = ap (λ i. name.Entry (id_of i)) (like_row x.row (unfolded_rows x.other) (unfolded_rows h.side) e.node g).id_is
+      by false g = ap (λ i. name.Entry (id_of i)) (like_row x.row (unfolded_rows h.side) (unfolded_rows x.other) e.node g).id_is
 
   pub crumbs_above : (d : Drafted) (p : Name) (i : FileId) (xs : List Fork) (es : List Crumb) → name.Entry i ≡ p → AreCrumbs old c t d xs es → name.Entry (crumb_above i es) ≡ above p xs
   crumbs_above d p i [] [] h k = h
@@ -110,14 +110,14 @@ module _ (old : Shown) (c : Resident) (t : Treap Row) where
 
   -- ---- one step up
 
-  over_leads : (x : Fork) (w : Treap Row) (e : EntryFields) (h : Hash32) (k : Link) → IsLike (Some (entries (forked x w))) (node.Entry e) → blocks (entries (forked x w)) < 2 ^ 64 → LinksTo e h k → WasHash old c (entry_name x.row) h → Leads old c (Some k) (forked x w)
+  over_leads : (x : Fork) (w : Treap Row) (e : EntryFields) (h : Hash32) (k : Link) → IsLike (Some (unfolded_rows (forked x w))) (node.Entry e) → blocks (unfolded_rows (forked x w)) < 2 ^ 64 → LinksTo e h k → WasHash old c (entry_name x.row) h → Leads old c (Some k) (forked x w)
   over_leads x w e h k like few to was = by x.right like few
     where
-      by : (r : Bool) → IsLike (Some (entries (cond r (Over x.row x.other w) (Over x.row w x.other)))) (node.Entry e) → blocks (entries (cond r (Over x.row x.other w) (Over x.row w x.other))) < 2 ^ 64 → Leads old c (Some k) (cond r (Over x.row x.other w) (Over x.row w x.other))
+      by : (r : Bool) → IsLike (Some (unfolded_rows (cond r (Over x.row x.other w) (Over x.row w x.other)))) (node.Entry e) → blocks (unfolded_rows (cond r (Over x.row x.other w) (Over x.row w x.other))) < 2 ^ 64 → Leads old c (Some k) (cond r (Over x.row x.other w) (Over x.row w x.other))
       by true g f = leads_to old c x.row x.other w e h k g f to was
       by false g f = leads_to old c x.row w x.other e h k g f to was
 
-  pub rising_more : (d e f : Drafted) (dir : FileId) (u : Treap Row) (es : List Crumb) (crumb : Crumb) (link : Option Link) (k : Link) → Once u → blocks (entries u) < 2 ^ 64 → IsSome (seen d c (name.Entry dir))
+  pub rising_more : (d e f : Drafted) (dir : FileId) (u : Treap Row) (es : List Crumb) (crumb : Crumb) (link : Option Link) (k : Link) → Once u → blocks (unfolded_rows u) < 2 ^ 64 → IsSome (seen d c (name.Entry dir))
       → LinksTo (turned crumb.right link crumb.node) crumb.hash k → IsPut e f (Some (name.Entry (crumb_above dir es))) (turned crumb.right link crumb.node)
       → Rising old c t d e (name.Entry dir) u (es ++ crumb ∷ []) link → Rising old c t d f (name.Entry dir) u es (Some k)
   rising_more d e f dir u es crumb link k once few there to put rise =
@@ -132,10 +132,10 @@ module _ (old : Shown) (c : Resident) (t : Treap Row) where
       let is : u ≡ under r.steps v = rise.is ∙ ap (λ xs. under xs w) r.is ∙ under_more r.steps x w in
       let apart = once_over x w (once_under r.steps v (subst Once is once)) in
       let le = under_blocks r.steps v in
-      let same = ap (λ a. blocks (entries a)) is in
-      let small : blocks (entries v) < 2 ^ 64 = omega (arith, le, same, few) in
-      let L : Bool → Type 0 = λ b. IsLike (Some (entries v)) (node.Entry (turned b link crumb.node)) in
-      let like : IsLike (Some (entries v)) (node.Entry tn) = subst L (sym r.crumb.right) (turned_like x r.crumb.side w crumb.node link r.crumb.like rise.leads.led_is) in
+      let same = ap (λ a. blocks (unfolded_rows a)) is in
+      let small : blocks (unfolded_rows v) < 2 ^ 64 = omega (arith, le, same, few) in
+      let L : Bool → Type 0 = λ b. IsLike (Some (unfolded_rows v)) (node.Entry (turned b link crumb.node)) in
+      let like : IsLike (Some (unfolded_rows v)) (node.Entry tn) = subst L (sym r.crumb.right) (turned_like x r.crumb.side w crumb.node link r.crumb.like rise.leads.led_is) in
       let id : name.Entry tn.id ≡ n = ap name.Entry (turned_id crumb.right link crumb.node) ∙ crumb_id d x crumb r.crumb in
       let sees : seen f c n ≡ Some (node.Entry tn) = ap (seen f c) (sym id) ∙ put_seen e f c (Some q) tn put in
       let hangs : parent_after f c n ≡ Some (above (name.Entry dir) r.steps) = ap (parent_after f c) (sym id) ∙ put_parent e f c (Some q) tn put ∙ ap Some top in
@@ -160,11 +160,11 @@ module _ (old : Shown) (c : Resident) (t : Treap Row) where
         stays = stays;
       }
     where
-      seat : (p : Name) (v : Treap Row) (node' : Node) (n : Name) → seen f c n ≡ Some (node.Entry (turned crumb.right link crumb.node)) → seen f c n ≡ Some node' → IsLike (Some (entries v)) (node.Entry (turned crumb.right link crumb.node)) → parent_after f c n ≡ Some p → IsSome (seen f c p)
-          → ((m : Name) (h : Hash32) → Holds (node.Entry (turned crumb.right link crumb.node)) m h → WasHash old c m h) → Seat old c f p n (entries v) node'
+      seat : (p : Name) (v : Treap Row) (node' : Node) (n : Name) → seen f c n ≡ Some (node.Entry (turned crumb.right link crumb.node)) → seen f c n ≡ Some node' → IsLike (Some (unfolded_rows v)) (node.Entry (turned crumb.right link crumb.node)) → parent_after f c n ≡ Some p → IsSome (seen f c p)
+          → ((m : Name) (h : Hash32) → Holds (node.Entry (turned crumb.right link crumb.node)) m h → WasHash old c m h) → Seat old c f p n (unfolded_rows v) node'
       seat p v node' n a b like parent there was =
           let s : node.Entry (turned crumb.right link crumb.node) ≡ node' = cc in
-          let P : Node → Type 0 = λ x. Seat old c f p n (entries v) x in
+          let P : Node → Type 0 = λ x. Seat old c f p n (unfolded_rows v) x in
           subst P s (record { like = like; parent = parent; there = there; hashes = was })
 
       touch : (m n : Name) (b : Bool) → same_name n m ≡ b → (m ≢ n → drafted f m ≡ drafted e m) → (drafted e m ≡ drafted d m) ⊎ IsSome (seen d c m) → IsSome (seen d c n) → (drafted f m ≡ drafted d m) ⊎ IsSome (seen d c m)

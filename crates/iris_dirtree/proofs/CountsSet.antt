@@ -8,7 +8,7 @@ use Rattle.iris_node.specs.declared.node.Node.{Node}
 use Rattle.iris_node.specs.declared.node.Node.TheVariants as node
 use Rattle.iris_node.specs.Fields.{EntryFields}
 use Rattle.iris_node.specs.Local.{local_of}
-use Rattle.iris_cache.specs.Resident.{Resident, held}
+use Rattle.iris_cache.specs.Resident.{Resident, held_node}
 use Rattle.iris_cache.specs.Drafted.{Drafted, drafted, seen, known_by, there_by, set_to}
 use Rattle.iris_cache.specs.Pictures.{parent_after, parent_by}
 use Rattle.iris_dirtree.specs.Counts.{said_count, counted_entry, counted_node, IsEntryName, Recounts}
@@ -26,14 +26,14 @@ module _ (d e : Drafted) (c : Resident) (child p : Name) (k : Node) (x w : Entry
   drafts = sym (ap (drafted e) named) ∙ put_at d e above w put
 
   now : seen e c p ≡ Some (node.Entry w)
-  now = ap (λ o. there_by (known_by o (held c p))) drafts
+  now = ap (λ o. there_by (known_by o (held_node c p))) drafts
 
   off : (n : Name) → same_name p n ≡ false → drafted e n ≡ drafted d n
   off n b = put_off d e above w n put (ap (λ m. same_name m n) named ∙ b)
 
   parents-by : (n : Name) (b : Bool) → same_name p n ≡ b → parent_after e c n ≡ parent_after d c n
-  parents-by n true b = subst (λ m. parent_after e c m ≡ parent_after d c m) (same_name-true p n b) (ap (λ o. parent_by o (held c p)) drafts ∙ up)
-  parents-by n false b = ap (λ o. parent_by o (held c n)) (off n b)
+  parents-by n true b = subst (λ m. parent_after e c m ≡ parent_after d c m) (same_name-true p n b) (ap (λ o. parent_by o (held_node c p)) drafts ∙ up)
+  parents-by n false b = ap (λ o. parent_by o (held_node c n)) (off n b)
 
   off-entry : (n : Name) → (IsEntryName n → ⊥) → same_name (name.Entry w.id) n ≡ false
   off-entry (name.Entry id) never = absurd (never tt)

@@ -5,7 +5,7 @@ use Rattle.iris_name.specs.Names.{same_name}
 use Rattle.iris_name.specs.NameLaws.{same_name-true, same_name-refl}
 use Rattle.iris_name.specs.declared.name.Name.{Name}
 use Rattle.iris_node.specs.Trees.{Shown, IsTree, IsParent}
-use Rattle.iris_cache.specs.Applied.{above}
+use Rattle.iris_cache.specs.Applied.{is_above_within}
 use Rattle.iris_cache.specs.Resident.{Resident}
 use Rattle.iris_cache.specs.Drafted.{Drafted, drafted, seen}
 use Rattle.iris_cache.specs.Pictures.{parent_after}
@@ -21,12 +21,12 @@ use Rattle.iris_cache.proofs.Rising.{or-split, or-right}
 
 -- what was met from the start lies below, or is met from here
 pub Left : Shown → (Name → Option Name) → ℕ → ℕ → Name → Name → Type 0
-Left made over most left start at = (q : Name) → above over most (Some start) q ≡ true → IsOver made at q ⊎ (above over left (Some at) q ≡ true)
+Left made over most left start at = (q : Name) → is_above_within over most (Some start) q ≡ true → IsOver made at q ⊎ (is_above_within over left (Some at) q ≡ true)
 
 -- so far up from the start
 pub record Climbing (d : Drafted) (c : Resident) (start : Name) (most left : ℕ) (e : Drafted) (at : Name) : Type 0 where
   pub lags : (old new made : Shown) (hand : Option Row) → IsTree made → IsCountable made → Lags old new made hand start d c → Lags old new made hand at e c × Left made (parent_after d c) most left start at
-  pub reach : (q : Name) (k : ℕ) → above (parent_after d c) k (Some at) q ≡ true → (j : ℕ) × (above (parent_after d c) j (Some start) q ≡ true)
+  pub reach : (q : Name) (k : ℕ) → is_above_within (parent_after d c) k (Some at) q ≡ true → (j : ℕ) × (is_above_within (parent_after d c) j (Some start) q ≡ true)
   pub parents : (q : Name) → parent_after e c q ≡ parent_after d c q
   pub stays : (n : Name) → IsSome (seen d c n) → IsSome (seen e c n)
   pub others : (n : Name) → (IsEntryName n → ⊥) → drafted e n ≡ drafted d n
@@ -41,16 +41,16 @@ begins d c start most = record {
   others = λ n s. refl;
 }
 
-pub step-up : (over : Name → Option Name) (k : ℕ) (at p q : Name) → over at ≡ Some p → above over k (Some p) q ≡ true → above over (suc k) (Some at) q ≡ true
-step-up over k at p q e m = or-right (same_name at q) (above over k (over at) q) (ap (λ o. above over k o q) e ∙ m)
+pub step-up : (over : Name → Option Name) (k : ℕ) (at p q : Name) → over at ≡ Some p → is_above_within over k (Some p) q ≡ true → is_above_within over (suc k) (Some at) q ≡ true
+step-up over k at p q e m = or-right (same_name at q) (is_above_within over k (over at) q) (ap (λ o. is_above_within over k o q) e ∙ m)
 
 step-left : (made : Shown) (over : Name → Option Name) (most k : ℕ) (start at p : Name) → over at ≡ Some p → IsParent made p at → Left made over most (suc k) start at → Left made over most k start p
 unfolding Left
 step-left made over most k start at p e parent left q m = elim (left q m) [
   | inl o ↦ inl (over_through made p at q (next p at parent) o)
-  | inr x ↦ elim (or-split (same_name at q) (above over k (over at) q) x) [
+  | inr x ↦ elim (or-split (same_name at q) (is_above_within over k (over at) q) x) [
     | inl s ↦ inl (subst (IsOver made p) (same_name-true at q s) (next p at parent))
-    | inr y ↦ inr (ap (λ o. above over k o q) (sym e) ∙ y)
+    | inr y ↦ inr (ap (λ o. is_above_within over k o q) (sym e) ∙ y)
   ]
 ]
 
@@ -72,8 +72,8 @@ pub ends : (d : Drafted) (c : Resident) (start : Name) (most k : ℕ) (e : Draft
     → (old new made : Shown) (hand : Option Row) → IsTree made → IsCountable made → Lags old new made hand start d c → Holding old made hand e c
 ends d c start most k e at so none old new made hand tree countable lags = topmost old new made hand at e c ((so.lags old new made hand tree countable lags).0) none
 
-pub at-parent : (over : Name → Option Name) (at p : Name) → over at ≡ Some p → above over 2 (Some at) p ≡ true
-at-parent over at p e = or-right (same_name at p) (above over 1 (over at) p) (ap (λ o. above over 1 o p) e ∙ ap (λ b. b || above over 0 (over p) p) (same_name-refl p))
+pub at-parent : (over : Name → Option Name) (at p : Name) → over at ≡ Some p → is_above_within over 2 (Some at) p ≡ true
+at-parent over at p e = or-right (same_name at p) (is_above_within over 1 (over at) p) (ap (λ o. is_above_within over 1 o p) e ∙ ap (λ b. b || is_above_within over 0 (over p) p) (same_name-refl p))
 
 -- after as many steps as there are names the way is at its end
 pub runs_out : (d : Drafted) (c : Resident) (start : Name) (most : ℕ) (e : Drafted) (at : Name) → most ≡ length c.nodes + length d.changes + 1 → Climbing d c start most 0 e at
@@ -87,5 +87,5 @@ runs_out d c start most e at enough so old new made hand tree countable lags = t
     none : (p : Name) → parent_after e c at ≡ Some p → IsSome (seen e c p) → ⊥
     none p up sees =
         let parent = parent_made old new made hand at p e c tree x.0 up sees in
-        let m = subst (λ k. above (parent_after d c) k (Some start) p ≡ true) (sym enough) (over-met d c start p (so.reach p 2 (at-parent (parent_after d c) at p (sym (so.parents at) ∙ up)))) in
+        let m = subst (λ k. is_above_within (parent_after d c) k (Some start) p ≡ true) (sym enough) (over-met d c start p (so.reach p 2 (at-parent (parent_after d c) at p (sym (so.parents at) ∙ up)))) in
         elim (x.1 p m) [ inl o ↦ never_over made tree at at (far at p at parent o) refl | inr z ↦ true≢false (sym z) ]

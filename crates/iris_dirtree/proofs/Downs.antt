@@ -7,7 +7,7 @@ use Rattle.iris_shape.specs.Order.{less_name, Rising}
 use Rattle.iris_shape.proofs.Orders.{less_not, less_through}
 use Rattle.iris_shape.proofs.Treaps.{each_left, each_right, each_map, each_both}
 use Rattle.iris_dirtree.specs.Rows.{Row, row_name}
-use Rattle.iris_dirtree.specs.Ways.{Any, along, before, is_named}
+use Rattle.iris_dirtree.specs.Ways.{Any, along, is_row_before, has_name}
 
 pub any_map : {A : Type 0} (P Q : A → Type 0) (xs : List A) → ((z : A) → P z → Q z) → Any P xs → Any Q xs
 any_map P Q [] f h = absurd h
@@ -88,10 +88,10 @@ less_back a b h = by (less_name b a) refl
     by true e = absurd (both_ways (less_name a a) (less_not a) (less_through a b a h e))
 
 -- where the name isn't below, it is nowhere
-pub down_none : (n : List ℕ) (t w : Treap Row) → Down (before n) (is_named n) t w → Rising row_name (rows t) → Each (λ r. r.name ≡ n → ⊥) (rows w) → Each (λ r. r.name ≡ n → ⊥) (rows t)
+pub down_none : (n : List ℕ) (t w : Treap Row) → Down (is_row_before n) (has_name n) t w → Rising row_name (rows t) → Each (λ r. r.name ≡ n → ⊥) (rows w) → Each (λ r. r.name ≡ n → ⊥) (rows t)
 down_none n t w here rise h = h
 down_none n t w (less y l m d a b) rise h =
-    let R = down_rising row_name (before n) (is_named n) t (Over y l m) d rise in
+    let R = down_rising row_name (is_row_before n) (has_name n) t (Over y l m) d rise in
     let after = rising_right row_name (rows l) (y ∷ rows m) R in
     let lt : less_name n y.name ≡ true = other (less_name y.name n) (less_name n y.name) b a in
     down_none n t (Over y l m) d rise
@@ -103,7 +103,7 @@ down_none n t w (less y l m d a b) rise h =
     other false true h k = refl
     other false false h k = absurd (true≢false k)
 down_none n t w (more y l m d a b) rise h =
-    let R = down_rising row_name (before n) (is_named n) t (Over y l m) d rise in
+    let R = down_rising row_name (is_row_before n) (has_name n) t (Over y l m) d rise in
     let before_y = rising_before row_name (rows l) y (rows m) R in
     down_none n t (Over y l m) d rise
     (each_both (λ r. r.name ≡ n → ⊥) (rows l) (y ∷ rows m)

@@ -4,7 +4,7 @@ use Rattle.std.specs.Prelude.{IsSome}
 use Rattle.iris_name.specs.declared.name.FileId.{FileId}
 use Rattle.iris_name.specs.declared.name.Name.TheVariants as name
 use Rattle.iris_node.specs.Trees.{Shown, IsTree}
-use Rattle.iris_shape.specs.Treap.{treap, put, without}
+use Rattle.iris_shape.specs.Treap.{treap, rows_with, rows_without}
 use Rattle.iris_cache.specs.Resident.{Resident}
 use Rattle.iris_cache.specs.Drafted.{Drafted, seen}
 use Rattle.iris_cache.specs.Pictures.{Drafts}
@@ -13,7 +13,7 @@ use Rattle.iris_dirtree.specs.Lags.{Lags}
 use Rattle.iris_dirtree.specs.Needs.{Listed, ListedInHand}
 use Rattle.iris_dirtree.specs.Planted.{Planted}
 use Rattle.iris_dirtree.specs.Rows.{Row, Rearranges, IsCountable, up}
-use Rattle.iris_dirtree.specs.Ways.{Any, is_named}
+use Rattle.iris_dirtree.specs.Ways.{Any, has_name}
 use Rattle.iris_dirtree.proofs.Assembly.{moves_in, moves_out, assembled}
 use Rattle.iris_dirtree.proofs.Handed.{holding_of, drafts_of, none_below}
 
@@ -22,14 +22,14 @@ abbrev pub SetsCounts : FileId → Drafted → Drafted → Resident → Type 0
 SetsCounts child e f c = (old new made : Shown) (hand : Option Row) → IsTree new → IsTree made → IsCountable made → Lags old new made hand (name.Entry child) e c → Holding old made hand f c
 
 pub inserted : (old new made : Shown) (key : List ℕ) (dir : FileId) (p : Row → Bool) (x : Row) (rows : List Row) (d e f : Drafted) (c : Resident) → ListedInHand key dir x d c old new rows → IsTree made → IsCountable made
-    → Rearranges new made key dir rows (put p x rows) → IsSome (seen d c (name.Entry dir)) → Planted old dir (treap (up key) rows) (treap (up key) (put p x rows)) d e c → SetsCounts dir e f c → Drafts old made f c
+    → Rearranges new made key dir rows (rows_with p x rows) → IsSome (seen d c (name.Entry dir)) → Planted old dir (treap (up key) rows) (treap (up key) (rows_with p x rows)) d e c → SetsCounts dir e f c → Drafts old made f c
 inserted old new made key dir p x rows d e f c listed made_is countable rearranges there planted sets =
     drafts_of old made None f c (sets old new made None listed.is made_is countable
-    (assembled old new made (Some x) None key dir rows (put p x rows) d e c listed.hand listed.is made_is listed.rows_are rearranges (moves_in p x rows rearranges.rows.distinct) there planted)) none_below
+    (assembled old new made (Some x) None key dir rows (rows_with p x rows) d e c listed.hand listed.is made_is listed.rows_are rearranges (moves_in p x rows rearranges.rows.distinct) there planted)) none_below
 
 pub removed : (old new made : Shown) (key : List ℕ) (dir : FileId) (x : Row) (rows : List Row) (d e f : Drafted) (c : Resident) → Listed key dir d c old new rows → Any (λ r. r ≡ x) rows → IsTree made → IsCountable made
-    → Rearranges new made key dir rows (without (is_named x.name) rows) → IsSome (seen d c (name.Entry dir)) → Planted old dir (treap (up key) rows) (treap (up key) (without (is_named x.name) rows)) d e c → SetsCounts dir e f c → Holding old made (Some x) f c
+    → Rearranges new made key dir rows (rows_without (has_name x.name) rows) → IsSome (seen d c (name.Entry dir)) → Planted old dir (treap (up key) rows) (treap (up key) (rows_without (has_name x.name) rows)) d e c → SetsCounts dir e f c → Holding old made (Some x) f c
 removed old new made key dir x rows d e f c listed in_rows made_is countable rearranges there planted sets =
     sets old new made (Some x) listed.is made_is countable
-    (assembled old new made None (Some x) key dir rows (without (is_named x.name) rows) d e c (holding_of old new None d c listed.drafts none_below tt) listed.is made_is listed.rows_are rearranges
+    (assembled old new made None (Some x) key dir rows (rows_without (has_name x.name) rows) d e c (holding_of old new None d c listed.drafts none_below tt) listed.is made_is listed.rows_are rearranges
     (moves_out x rows listed.rows_are.rising listed.rows_are.distinct in_rows) there planted)

@@ -17,7 +17,7 @@ use Rattle.iris_shape.specs.Treap.{Treap, Empty, Over}
 use Rattle.iris_cache.specs.Resident.{Resident}
 use Rattle.iris_cache.specs.Drafted.{Drafted, drafted, seen}
 use Rattle.iris_cache.specs.Pictures.{Holds, IsLike, LinkHolds, parent_after}
-use Rattle.iris_dirtree.specs.Rows.{Row, Content, Directory, File, entries, entry_of, row_entry}
+use Rattle.iris_dirtree.specs.Rows.{Row, Content, Directory, File, unfolded_rows, entry_of, row_entry}
 use Rattle.iris_dirtree.specs.Hands.{IsRowNode, HoldsTrue}
 use Rattle.iris_dirtree.specs.Nodes.{turned, between, node_blocks, LinksTo, IsPut}
 use Rattle.iris_dirtree.specs.Grafts.{Fork, entry_name, forked, around, over, InRows, Once, WasHash, Fits, Leads}
@@ -87,11 +87,11 @@ turned_hashes old c e false k he hk m h (inr (inr x)) = he m h (inr (inr x))
 -- ---- links
 
 -- a link to an entry that is like a row's leads to the row
-pub leads_to : (old : Shown) (c : Resident) (y : Row) (l m : Treap Row) (e : EntryFields) (h : Hash32) (k : Link) → IsLike (Some (entries (Over y l m))) (node.Entry e) → blocks (entries (Over y l m)) < 2 ^ 64 → LinksTo e h k → WasHash old c (entry_name y) h
+pub leads_to : (old : Shown) (c : Resident) (y : Row) (l m : Treap Row) (e : EntryFields) (h : Hash32) (k : Link) → IsLike (Some (unfolded_rows (Over y l m))) (node.Entry e) → blocks (unfolded_rows (Over y l m)) < 2 ^ 64 → LinksTo e h k → WasHash old c (entry_name y) h
     → Leads old c (Some k) (Over y l m)
 leads_to old c y l m e h k like few links was =
-    let a = entries l in
-    let b = entries m in
+    let a = unfolded_rows l in
+    let b = unfolded_rows m in
     let r = says y.id y.name y.content a b e e.body like in
     let all = like_blocks (row_entry y a b) e e.body like in
     let lt : node_blocks e < 2 ^ 64 = subst (λ n. n < 2 ^ 64) (sym all) few in
@@ -126,7 +126,7 @@ module _ (old : Shown) (c : Resident) (known : Name → Type 0) where
       )
 
   -- an entry is set above two treaps that fit
-  pub fits_set : (d e : Drafted) (p : Name) (y : Row) (l m : Treap Row) (x : EntryFields) → name.Entry x.id ≡ entry_name y → IsPut d e (Some p) x → IsLike (Some (entries (Over y l m))) (node.Entry x) → known p
+  pub fits_set : (d e : Drafted) (p : Name) (y : Row) (l m : Treap Row) (x : EntryFields) → name.Entry x.id ≡ entry_name y → IsPut d e (Some p) x → IsLike (Some (unfolded_rows (Over y l m))) (node.Entry x) → known p
       → ((q : Name) (h : Hash32) → Holds (node.Entry x) q h → WasHash old c q h) → (InRows (entry_name y) l → ⊥) → (InRows (entry_name y) m → ⊥) → Fits old c known d (entry_name y) l → Fits old c known d (entry_name y) m → Fits old c known e p (Over y l m)
   fits_set d e p y l m x id put like there hashes out_l out_m fl fm =
       let n = entry_name y in
@@ -135,7 +135,7 @@ module _ (old : Shown) (c : Resident) (known : Name → Type 0) where
             let is : Some (node.Entry x) ≡ Some z = sym (put_seen d e c (Some p) x put) ∙ ap (λ i. seen e c i) id ∙ at in
             let same : node.Entry x ≡ z = cc in
             record {
-              like = subst (λ v. IsLike (Some (entries (Over y l m))) v) same like;
+              like = subst (λ v. IsLike (Some (unfolded_rows (Over y l m))) v) same like;
               hangs = ap (λ i. parent_after e c i) (sym id) ∙ put_parent d e c (Some p) x put;
               above = there;
               hashes = λ q h holds. hashes q h (subst (λ v. Holds v q h) (sym same) holds);
@@ -175,11 +175,11 @@ pub less_over : (id : ℕ) (label : List ℕ) (c : Content) (a b : Unfolded) →
 less_over id label (Directory inside) a b = (omega arith, omega arith)
 less_over id label (File size counter versions) a b = (omega arith, omega arith)
 
-few_forked : (row : Row) (other t : Treap Row) (b : Bool) → blocks (entries t) ≤ blocks (entries (cond b (Over row other t) (Over row t other)))
-few_forked row other t true = (less_over row.id row.name row.content (entries other) (entries t)).1
-few_forked row other t false = (less_over row.id row.name row.content (entries t) (entries other)).0
+few_forked : (row : Row) (other t : Treap Row) (b : Bool) → blocks (unfolded_rows t) ≤ blocks (unfolded_rows (cond b (Over row other t) (Over row t other)))
+few_forked row other t true = (less_over row.id row.name row.content (unfolded_rows other) (unfolded_rows t)).1
+few_forked row other t false = (less_over row.id row.name row.content (unfolded_rows t) (unfolded_rows other)).0
 
-pub few_around : (forks : List Fork) (t : Treap Row) → blocks (entries t) ≤ blocks (entries (around forks t))
+pub few_around : (forks : List Fork) (t : Treap Row) → blocks (unfolded_rows t) ≤ blocks (unfolded_rows (around forks t))
 few_around [] t = omega arith
 few_around (s ∷ ss) t =
     let a = few_forked s.row s.other t s.right in

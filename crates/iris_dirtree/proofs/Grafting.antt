@@ -17,8 +17,8 @@ use Rattle.iris_shape.specs.Treap.{Treap, Empty, Over, low, high}
 use Rattle.iris_cache.specs.Resident.{Resident}
 use Rattle.iris_cache.specs.Drafted.{Drafted, drafted, seen}
 use Rattle.iris_cache.specs.Pictures.{IsLike, Holds, BodyHolds, parent_after}
-use Rattle.iris_dirtree.specs.Rows.{Row, entries, IsCountable}
-use Rattle.iris_dirtree.specs.Ways.{before}
+use Rattle.iris_dirtree.specs.Rows.{Row, unfolded_rows, IsCountable}
+use Rattle.iris_dirtree.specs.Ways.{is_row_before}
 use Rattle.iris_dirtree.specs.Planted.{Likes, Hang, Stays}
 use Rattle.iris_dirtree.specs.Nodes.{dir_top, body_top, OnlyEntries}
 use Rattle.iris_dirtree.specs.Grafts.{Fork, entry_name, around, over, low_over, high_over, split_over, InRows, WasHash, Fits, Leads, AreCrumbs}
@@ -32,15 +32,15 @@ use Rattle.iris_dirtree.proofs.There.{never_none}
 -- ---- what a plan begins with
 
 module _ (old new : Shown) (d : Drafted) (c : Resident) (see : Sees old new d c) (known_last : Name → Type 0) (all : (n : Name) → IsSome (seen d c n) → known_last n) where
-  pub fits_of : (p : Name) (u : Unfolded) (w : Treap Row) → new p ≡ Some u → IsAbove u (entries w) → Placed new w → Fits old c known_last d p w
+  pub fits_of : (p : Name) (u : Unfolded) (w : Treap Row) → new p ≡ Some u → IsAbove u (unfolded_rows w) → Placed new w → Fits old c known_last d p w
   fits_of p u Empty live above h = tt
   fits_of p u (Over y l m) live above h =
       let n = entry_name y in (
         (λ x at.
             let hung = see.parents n p x at (top_parent new p u y l m live above) in
             record { like = subst (λ o. IsLike o x) h.0 (see.nodes n x at); hangs = hung.0; above = all p hung.1; hashes = λ q w holds. see.hashes n q x w at holds }),
-        fits_of n (entries (Over y l m)) l h.0 (above_less y.id y.name y.content (entries l) (entries m)) h.1,
-        fits_of n (entries (Over y l m)) m h.0 (above_more y.id y.name y.content (entries l) (entries m)) h.2,
+        fits_of n (unfolded_rows (Over y l m)) l h.0 (above_less y.id y.name y.content (unfolded_rows l) (unfolded_rows m)) h.1,
+        fits_of n (unfolded_rows (Over y l m)) m h.0 (above_more y.id y.name y.content (unfolded_rows l) (unfolded_rows m)) h.2,
       )
 
 -- the entry of a directory that is seen, with the link inside it
@@ -62,11 +62,11 @@ led_inside : (id : ℕ) (label : List ℕ) (less more inside : Unfolded) (e : En
 led_inside id label less more inside e (Dir t) top i h = let q : t ≡ top = cc in let r : led_by t ≡ led inside = cc in sym (ap led_by q) ∙ r
 led_inside id label less more inside e (FileBody s k v) top i h = cc
 
-pub leads_of : (old new : Shown) (d : Drafted) (c : Resident) (dir : FileId) (w : Treap Row) (top : Option Link) → Sees old new d c → Roof new dir (entries w) → TopSeen (seen d c (name.Entry dir)) top → Leads old c top w
+pub leads_of : (old new : Shown) (d : Drafted) (c : Resident) (dir : FileId) (w : Treap Row) (top : Option Link) → Sees old new d c → Roof new dir (unfolded_rows w) → TopSeen (seen d c (name.Entry dir)) top → Leads old c top w
 leads_of old new d c dir w top see rf ts =
     let like = subst (λ o. IsLike o (node.Entry ts.entry)) (rf.live ∙ ap Some rf.is) (see.nodes (name.Entry dir) (node.Entry ts.entry) ts.is) in
     record {
-      led_is = led_inside dir.0 rf.label rf.less rf.more (entries w) ts.entry ts.entry.body top ts.body like;
+      led_is = led_inside dir.0 rf.label rf.less rf.more (unfolded_rows w) ts.entry ts.entry.body top ts.body like;
       hash = λ q x holds. see.hashes (name.Entry dir) q (node.Entry ts.entry) x ts.is (inr (inr (subst (λ b. BodyHolds ts.entry.id b q x) (sym ts.body) holds)));
     }
 
@@ -104,28 +104,28 @@ only_through d e f h k n =
 
 -- ---- counts of a table
 
-pub few_top : (made : Shown) (w : Treap Row) → IsCountable made → Placed made w → blocks (entries w) < 2 ^ 64
+pub few_top : (made : Shown) (w : Treap Row) → IsCountable made → Placed made w → blocks (unfolded_rows w) < 2 ^ 64
 few_top made Empty countable placed = omega arith
-few_top made (Over y l m) countable placed = countable (entry_name y) (entries (Over y l m)) placed.0
+few_top made (Over y l m) countable placed = countable (entry_name y) (unfolded_rows (Over y l m)) placed.0
 
 -- ---- the whole way up a split
 
 pub record Halves (n : List ℕ) (old : Shown) (c : Resident) (i : FileId) (d e : Drafted) (t : Treap Row) (lows highs : Option Link) : Type 0 where
-  pub low_leads : Leads old c lows (low (before n) t)
-  pub high_leads : Leads old c highs (high (before n) t)
-  pub low_fits : Fits old c (IsKnown d c i) e (name.Entry i) (low (before n) t)
-  pub high_fits : Fits old c (IsKnown d c i) e (name.Entry i) (high (before n) t)
+  pub low_leads : Leads old c lows (low (is_row_before n) t)
+  pub high_leads : Leads old c highs (high (is_row_before n) t)
+  pub low_fits : Fits old c (IsKnown d c i) e (name.Entry i) (low (is_row_before n) t)
+  pub high_fits : Fits old c (IsKnown d c i) e (name.Entry i) (high (is_row_before n) t)
   pub touched : Touches c d e t
 
 halves_by : (n : List ℕ) (old : Shown) (c : Resident) (i : FileId) (d e : Drafted) (t rest : Treap Row) (forks : List Fork) (lows highs : Option Link) → around forks rest ≡ t → AreCrumbs old c d (split_over (name.Entry i)) forks []
-    → Leads old c lows (low (before n) rest) → Leads old c highs (high (before n) rest) → Fits old c (IsKnown d c i) e (low_over (name.Entry i) forks) (low (before n) rest) → Fits old c (IsKnown d c i) e (high_over (name.Entry i) forks) (high (before n) rest) → Touches c d e rest
+    → Leads old c lows (low (is_row_before n) rest) → Leads old c highs (high (is_row_before n) rest) → Fits old c (IsKnown d c i) e (low_over (name.Entry i) forks) (low (is_row_before n) rest) → Fits old c (IsKnown d c i) e (high_over (name.Entry i) forks) (high (is_row_before n) rest) → Touches c d e rest
     → Halves n old c i d e t lows highs
 halves_by n old c i d e t rest [] lows highs is crumbs ll hl lf hf touched =
     record {
-      low_leads = subst (λ v. Leads old c lows (low (before n) v)) is ll;
-      high_leads = subst (λ v. Leads old c highs (high (before n) v)) is hl;
-      low_fits = subst (λ v. Fits old c (IsKnown d c i) e (name.Entry i) (low (before n) v)) is lf;
-      high_fits = subst (λ v. Fits old c (IsKnown d c i) e (name.Entry i) (high (before n) v)) is hf;
+      low_leads = subst (λ v. Leads old c lows (low (is_row_before n) v)) is ll;
+      high_leads = subst (λ v. Leads old c highs (high (is_row_before n) v)) is hl;
+      low_fits = subst (λ v. Fits old c (IsKnown d c i) e (name.Entry i) (low (is_row_before n) v)) is lf;
+      high_fits = subst (λ v. Fits old c (IsKnown d c i) e (name.Entry i) (high (is_row_before n) v)) is hf;
       touched = subst (Touches c d e) is touched;
     }
 halves_by n old c i d e t rest (s ∷ ss) lows highs is crumbs ll hl lf hf touched = absurd (no_snoc crumbs.0 crumbs.1 (sym crumbs.2))

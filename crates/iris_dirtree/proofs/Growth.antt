@@ -6,14 +6,14 @@ use Rattle.iris_name.specs.declared.name.Name.TheVariants as name
 use Rattle.iris_node.specs.declared.node.Link.{Link}
 use Rattle.iris_node.specs.declared.node.Node.TheVariants as node
 use Rattle.iris_node.specs.Fields.{EntryFields}
-use Rattle.iris_node.specs.Rules.{IsLinked}
+use Rattle.iris_node.specs.Rules.{IsLinkToNamed}
 use Rattle.iris_node.specs.Trees.{Shown}
 use Rattle.iris_node.specs.Unfolded.{blocks, id_of}
 use Rattle.iris_shape.specs.Treap.{Treap, Over}
 use Rattle.iris_cache.specs.Resident.{Resident}
 use Rattle.iris_cache.specs.Drafted.{Drafted, drafted, seen}
 use Rattle.iris_dirtree.specs.declared.inserting.Crumb.{Crumb}
-use Rattle.iris_dirtree.specs.Rows.{Row, entries}
+use Rattle.iris_dirtree.specs.Rows.{Row, unfolded_rows}
 use Rattle.iris_dirtree.specs.Nodes.{turned, LinksTo, IsPut, OnlyEntries}
 use Rattle.iris_dirtree.specs.Grafts.{Fork, entry_name, forked, around, over, InRows, Once, Fits, Leads, IsCrumb, AreCrumbs}
 use Rattle.iris_dirtree.specs.Splits.{IsKnown, Growing, Grows}
@@ -38,7 +38,7 @@ only_more d e1 e2 p x h put n =
       ]
     ]
 
-pub linked_either : (b : Bool) (k l : Option Link) → IsLinked k → IsLinked l → IsLinked (cond b k l)
+pub linked_either : (b : Bool) (k l : Option Link) → IsLinkToNamed k → IsLinkToNamed l → IsLinkToNamed (cond b k l)
 linked_either true k l h g = h
 linked_either false k l h g = g
 
@@ -62,10 +62,10 @@ module _ (old : Shown) (c : Resident) (i : FileId) (d e1 e2 : Drafted) (p : Name
   untouched was q (inr (inl r)) out inside = absurd (out r.1)
   untouched was q (inr (inr r)) out inside = absurd (g.fresh (subst (λ n. InRows n t) r inside))
 
-  few_at : (ss : List Fork) (v : Treap Row) → around ss v ≡ u → blocks (entries v) < 2 ^ 64
+  few_at : (ss : List Fork) (v : Treap Row) → around ss v ≡ u → blocks (unfolded_rows v) < 2 ^ 64
   few_at ss v is =
       let b = few_around ss v in
-      let e = ap (λ v. blocks (entries v)) is in
+      let e = ap (λ v. blocks (unfolded_rows v)) is in
       let f = g.few in
       omega (arith, b, e, f)
 
@@ -81,8 +81,8 @@ module _ (old : Shown) (c : Resident) (i : FileId) (d e1 e2 : Drafted) (p : Name
       let Q = once_around ss U (subst Once (sym nis) g.once_then) in
       let fit = F.0 (node.Entry k.node) crumb.sees in
       let e = turned true (Some link) k.node in
-      let like = like_turned row (entries other) (entries was) (entries now) k.node true (Some link) fit.like leads.led_is in
-      let id : name.Entry k.node.id ≡ entry_name row = ap (λ j. name.Entry (id_of j)) (like_row row (entries other) (entries was) k.node fit.like).id_is in
+      let like = like_turned row (unfolded_rows other) (unfolded_rows was) (unfolded_rows now) k.node true (Some link) fit.like leads.led_is in
+      let id : name.Entry k.node.id ≡ entry_name row = ap (λ j. name.Entry (id_of j)) (like_row row (unfolded_rows other) (unfolded_rows was) k.node fit.like).id_is in
       let put2 = subst (λ q. IsPut e1 e2 (Some q) e) crumb.hangs put in
       let hashes = turned_hashes old c k.node true (Some link) fit.hashes leads.hash in
       let there : IsSome (seen d c (entry_name row)) = is_there (seen d c (entry_name row)) (node.Entry k.node) crumb.sees in
@@ -112,8 +112,8 @@ module _ (old : Shown) (c : Resident) (i : FileId) (d e1 e2 : Drafted) (p : Name
       let Q = once_around ss U (subst Once (sym nis) g.once_then) in
       let fit = F.0 (node.Entry k.node) crumb.sees in
       let e = turned false (Some link) k.node in
-      let like = like_turned row (entries was) (entries other) (entries now) k.node false (Some link) fit.like leads.led_is in
-      let id : name.Entry k.node.id ≡ entry_name row = ap (λ j. name.Entry (id_of j)) (like_row row (entries was) (entries other) k.node fit.like).id_is in
+      let like = like_turned row (unfolded_rows was) (unfolded_rows other) (unfolded_rows now) k.node false (Some link) fit.like leads.led_is in
+      let id : name.Entry k.node.id ≡ entry_name row = ap (λ j. name.Entry (id_of j)) (like_row row (unfolded_rows was) (unfolded_rows other) k.node fit.like).id_is in
       let put2 = subst (λ q. IsPut e1 e2 (Some q) e) crumb.hangs put in
       let hashes = turned_hashes old c k.node false (Some link) fit.hashes leads.hash in
       let there : IsSome (seen d c (entry_name row)) = is_there (seen d c (entry_name row)) (node.Entry k.node) crumb.sees in

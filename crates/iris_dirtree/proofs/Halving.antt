@@ -13,8 +13,8 @@ use Rattle.iris_shape.specs.Treap.{Treap, Empty, Over, Each, low, high}
 use Rattle.iris_cache.specs.Resident.{Resident}
 use Rattle.iris_cache.specs.Drafted.{Drafted, drafted, seen}
 use Rattle.iris_dirtree.specs.declared.inserting.Crumb.{Crumb}
-use Rattle.iris_dirtree.specs.Rows.{Row, Content, Directory, File, entries, entry_of, row_entry}
-use Rattle.iris_dirtree.specs.Ways.{before}
+use Rattle.iris_dirtree.specs.Rows.{Row, Content, Directory, File, unfolded_rows, entry_of, row_entry}
+use Rattle.iris_dirtree.specs.Ways.{is_row_before}
 use Rattle.iris_dirtree.specs.Nodes.{turned, LinksTo, IsPut}
 use Rattle.iris_dirtree.specs.Grafts.{Fork, entry_name, forked, around, over, low_over, high_over, split_over, InRows, Once, Fits, Leads, IsCrumb, AreCrumbs, Passes}
 use Rattle.iris_dirtree.specs.Splits.{IsKnown, IsSplitWay, Splits, Halved, Touches}
@@ -78,25 +78,25 @@ below y a b = by y.id y.name y.content
     by id label (Directory inside) = (omega arith, omega arith)
     by id label (File size counter versions) = (omega arith, omega arith)
 
-few_cond : (b : Bool) (t u : Treap Row) (n : ℕ) → blocks (entries t) ≤ n → blocks (entries u) ≤ n → blocks (entries (cond b t u)) ≤ n
+few_cond : (b : Bool) (t u : Treap Row) (n : ℕ) → blocks (unfolded_rows t) ≤ n → blocks (unfolded_rows u) ≤ n → blocks (unfolded_rows (cond b t u)) ≤ n
 few_cond true t u n f g = f
 few_cond false t u n f g = g
 
-pub few_lows : (p : Row → Bool) (t : Treap Row) → blocks (entries (low p t)) ≤ blocks (entries t)
+pub few_lows : (p : Row → Bool) (t : Treap Row) → blocks (unfolded_rows (low p t)) ≤ blocks (unfolded_rows t)
 few_lows p Empty = omega arith
 few_lows p (Over y l m) =
     let il = few_lows p l in
     let im = few_lows p m in
-    let r = below y (entries l) (entries m) in
-    few_cond (p y) (Over y l (low p m)) (low p l) (blocks (entries (Over y l m))) (mono y (entries l) (entries l) (entries (low p m)) (entries m) (omega arith) im) (omega (arith, il, r.0))
+    let r = below y (unfolded_rows l) (unfolded_rows m) in
+    few_cond (p y) (Over y l (low p m)) (low p l) (blocks (unfolded_rows (Over y l m))) (mono y (unfolded_rows l) (unfolded_rows l) (unfolded_rows (low p m)) (unfolded_rows m) (omega arith) im) (omega (arith, il, r.0))
 
-pub few_highs : (p : Row → Bool) (t : Treap Row) → blocks (entries (high p t)) ≤ blocks (entries t)
+pub few_highs : (p : Row → Bool) (t : Treap Row) → blocks (unfolded_rows (high p t)) ≤ blocks (unfolded_rows t)
 few_highs p Empty = omega arith
 few_highs p (Over y l m) =
     let il = few_highs p l in
     let im = few_highs p m in
-    let r = below y (entries l) (entries m) in
-    few_cond (p y) (high p m) (Over y (high p l) m) (blocks (entries (Over y l m))) (omega (arith, im, r.1)) (mono y (entries (high p l)) (entries l) (entries m) (entries m) il (omega arith))
+    let r = below y (unfolded_rows l) (unfolded_rows m) in
+    few_cond (p y) (high p m) (Over y (high p l) m) (blocks (unfolded_rows (Over y l m))) (omega (arith, im, r.1)) (mono y (unfolded_rows (high p l)) (unfolded_rows l) (unfolded_rows m) (unfolded_rows m) il (omega arith))
 
 -- ---- what is known of the nodes of a way
 
@@ -133,38 +133,38 @@ module _ (n : List ℕ) (old : Shown) (c : Resident) (i : FileId) (d e1 e2 : Dra
   untouched : (cur : Treap Row) (q : Name) → Touches c d e1 cur → (InRows q cur → ⊥) → drafted e1 q ≡ drafted d q
   untouched cur q touched out = elim (touched q) [ inl e ↦ e | inr r ↦ absurd (out r.1) ]
 
-  few_made : (row : Row) (l m l2 m2 : Treap Row) (ss : List Fork) → around ss (Over row l m) ≡ t → blocks (entries l2) ≤ blocks (entries l) → blocks (entries m2) ≤ blocks (entries m) → blocks (entries (Over row l2 m2)) < 2 ^ 64
+  few_made : (row : Row) (l m l2 m2 : Treap Row) (ss : List Fork) → around ss (Over row l m) ≡ t → blocks (unfolded_rows l2) ≤ blocks (unfolded_rows l) → blocks (unfolded_rows m2) ≤ blocks (unfolded_rows m) → blocks (unfolded_rows (Over row l2 m2)) < 2 ^ 64
   few_made row l m l2 m2 ss is hl hm =
-      let a = mono row (entries l2) (entries l) (entries m2) (entries m) hl hm in
+      let a = mono row (unfolded_rows l2) (unfolded_rows l) (unfolded_rows m2) (unfolded_rows m) hl hm in
       let b = few_around ss (Over row l m) in
-      let e = ap (λ v. blocks (entries v)) is in
+      let e = ap (λ v. blocks (unfolded_rows v)) is in
       let f = sp.few in
       omega (arith, a, b, e, f)
 
   step_low : (row : Row) (other cur : Treap Row) (ss : List Fork) (js : List Crumb) (k : Crumb) (lows highs : Option Link) (link : Link)
-      → around ss (Over row other cur) ≡ t → IsCrumb old c d (low_over (name.Entry i) ss) (record { row = row; other = other; right = true }) k → AreCrumbs old c d (split_over (name.Entry i)) ss js → Each (Passes n) ss → before n row ≡ true
-      → Leads old c lows (low (before n) cur) → Leads old c highs (high (before n) cur) → Fits old c (IsKnown d c i) e1 (entry_name row) (low (before n) cur) → Fits old c (IsKnown d c i) e1 (high_over (name.Entry i) ss) (high (before n) cur) → Touches c d e1 cur
+      → around ss (Over row other cur) ≡ t → IsCrumb old c d (low_over (name.Entry i) ss) (record { row = row; other = other; right = true }) k → AreCrumbs old c d (split_over (name.Entry i)) ss js → Each (Passes n) ss → is_row_before n row ≡ true
+      → Leads old c lows (low (is_row_before n) cur) → Leads old c highs (high (is_row_before n) cur) → Fits old c (IsKnown d c i) e1 (entry_name row) (low (is_row_before n) cur) → Fits old c (IsKnown d c i) e1 (high_over (name.Entry i) ss) (high (is_row_before n) cur) → Touches c d e1 cur
       → LinksTo (turned true lows k.node) k.hash link → IsPut e1 e2 (Some (name.Entry k.parent)) (turned true lows k.node) → Halved n old c i d e2 t js (Some link) highs
   step_low row other cur ss js k lows highs link is crumb crumbs passed b ll hl lf hf touched links put =
       let known = IsKnown d c i in
       let T : Treap Row = Over row other cur in
-      let L = low (before n) cur in
-      let el : low (before n) T ≡ Over row other L = cond-true (before n row) (Over row other L) (low (before n) other) b in
-      let eh : high (before n) T ≡ high (before n) cur = cond-true (before n row) (high (before n) cur) (Over row (high (before n) other) cur) b in
+      let L = low (is_row_before n) cur in
+      let el : low (is_row_before n) T ≡ Over row other L = cond-true (is_row_before n row) (Over row other L) (low (is_row_before n) other) b in
+      let eh : high (is_row_before n) T ≡ high (is_row_before n) cur = cond-true (is_row_before n row) (high (is_row_before n) cur) (Over row (high (is_row_before n) other) cur) b in
       let F = fits_around old c known d p ss T (subst (Fits old c known d p) (sym is) sp.fits) in
       let O = once_around ss T (subst Once (sym is) sp.once) in
       let fit = F.0 (node.Entry k.node) crumb.sees in
       let e = turned true lows k.node in
-      let like = like_turned row (entries other) (entries cur) (entries L) k.node true lows fit.like ll.led_is in
-      let id : name.Entry k.node.id ≡ entry_name row = ap (λ j. name.Entry (id_of j)) (like_row row (entries other) (entries cur) k.node fit.like).id_is in
+      let like = like_turned row (unfolded_rows other) (unfolded_rows cur) (unfolded_rows L) k.node true lows fit.like ll.led_is in
+      let id : name.Entry k.node.id ≡ entry_name row = ap (λ j. name.Entry (id_of j)) (like_row row (unfolded_rows other) (unfolded_rows cur) k.node fit.like).id_is in
       let put2 = subst (λ q. IsPut e1 e2 (Some q) e) crumb.hangs put in
       let hashes = turned_hashes old c k.node true lows fit.hashes ll.hash in
-      let few = few_made row other cur other L ss is (omega arith) (few_lows (before n) cur) in
+      let few = few_made row other cur other L ss is (omega arith) (few_lows (is_row_before n) cur) in
       let there : IsSome (seen d c (entry_name row)) = is_there (seen d c (entry_name row)) (node.Entry k.node) crumb.sees in
-      let out_low : InRows (entry_name row) L → ⊥ = λ j. O.1 (in_low (before n) (entry_name row) cur j) in
+      let out_low : InRows (entry_name row) L → ⊥ = λ j. O.1 (in_low (is_row_before n) (entry_name row) cur j) in
       let other_fits = fits_frame old c known d e1 (entry_name row) other (λ q j. untouched cur q touched (λ w. O.2 q j w)) F.1 in
       let made = fits_set old c known e1 e2 (low_over (name.Entry i) ss) row other L e id put2 like (low_known old c d (split_over (name.Entry i)) i ss js crumbs) hashes O.0 out_low other_fits lf in
-      let high_made = fits_frame old c known e1 e2 (high_over (name.Entry i) ss) (high (before n) cur) (λ q j. put_other e1 e2 (Some (name.Entry k.parent)) e q put (λ r. O.1 (subst (λ z. InRows z cur) (r ∙ id) (in_high (before n) q cur j)))) hf in
+      let high_made = fits_frame old c known e1 e2 (high_over (name.Entry i) ss) (high (is_row_before n) cur) (λ q j. put_other e1 e2 (Some (name.Entry k.parent)) e q put (λ r. O.1 (subst (λ z. InRows z cur) (r ∙ id) (in_high (is_row_before n) q cur j)))) hf in
       record {
         forks = ss;
         rest = T;
@@ -179,29 +179,29 @@ module _ (n : List ℕ) (old : Shown) (c : Resident) (i : FileId) (d e1 e2 : Dra
       }
 
   step_high : (row : Row) (other cur : Treap Row) (ss : List Fork) (js : List Crumb) (k : Crumb) (lows highs : Option Link) (link : Link)
-      → around ss (Over row cur other) ≡ t → IsCrumb old c d (high_over (name.Entry i) ss) (record { row = row; other = other; right = false }) k → AreCrumbs old c d (split_over (name.Entry i)) ss js → Each (Passes n) ss → before n row ≡ false
-      → Leads old c lows (low (before n) cur) → Leads old c highs (high (before n) cur) → Fits old c (IsKnown d c i) e1 (low_over (name.Entry i) ss) (low (before n) cur) → Fits old c (IsKnown d c i) e1 (entry_name row) (high (before n) cur) → Touches c d e1 cur
+      → around ss (Over row cur other) ≡ t → IsCrumb old c d (high_over (name.Entry i) ss) (record { row = row; other = other; right = false }) k → AreCrumbs old c d (split_over (name.Entry i)) ss js → Each (Passes n) ss → is_row_before n row ≡ false
+      → Leads old c lows (low (is_row_before n) cur) → Leads old c highs (high (is_row_before n) cur) → Fits old c (IsKnown d c i) e1 (low_over (name.Entry i) ss) (low (is_row_before n) cur) → Fits old c (IsKnown d c i) e1 (entry_name row) (high (is_row_before n) cur) → Touches c d e1 cur
       → LinksTo (turned false highs k.node) k.hash link → IsPut e1 e2 (Some (name.Entry k.parent)) (turned false highs k.node) → Halved n old c i d e2 t js lows (Some link)
   step_high row other cur ss js k lows highs link is crumb crumbs passed b ll hl lf hf touched links put =
       let known = IsKnown d c i in
       let T : Treap Row = Over row cur other in
-      let H = high (before n) cur in
-      let el : low (before n) T ≡ low (before n) cur = cond-false (before n row) (Over row cur (low (before n) other)) (low (before n) cur) b in
-      let eh : high (before n) T ≡ Over row H other = cond-false (before n row) (high (before n) other) (Over row H other) b in
+      let H = high (is_row_before n) cur in
+      let el : low (is_row_before n) T ≡ low (is_row_before n) cur = cond-false (is_row_before n row) (Over row cur (low (is_row_before n) other)) (low (is_row_before n) cur) b in
+      let eh : high (is_row_before n) T ≡ Over row H other = cond-false (is_row_before n row) (high (is_row_before n) other) (Over row H other) b in
       let F = fits_around old c known d p ss T (subst (Fits old c known d p) (sym is) sp.fits) in
       let O = once_around ss T (subst Once (sym is) sp.once) in
       let fit = F.0 (node.Entry k.node) crumb.sees in
       let e = turned false highs k.node in
-      let like = like_turned row (entries cur) (entries other) (entries H) k.node false highs fit.like hl.led_is in
-      let id : name.Entry k.node.id ≡ entry_name row = ap (λ j. name.Entry (id_of j)) (like_row row (entries cur) (entries other) k.node fit.like).id_is in
+      let like = like_turned row (unfolded_rows cur) (unfolded_rows other) (unfolded_rows H) k.node false highs fit.like hl.led_is in
+      let id : name.Entry k.node.id ≡ entry_name row = ap (λ j. name.Entry (id_of j)) (like_row row (unfolded_rows cur) (unfolded_rows other) k.node fit.like).id_is in
       let put2 = subst (λ q. IsPut e1 e2 (Some q) e) crumb.hangs put in
       let hashes = turned_hashes old c k.node false highs fit.hashes hl.hash in
-      let few = few_made row cur other H other ss is (few_highs (before n) cur) (omega arith) in
+      let few = few_made row cur other H other ss is (few_highs (is_row_before n) cur) (omega arith) in
       let there : IsSome (seen d c (entry_name row)) = is_there (seen d c (entry_name row)) (node.Entry k.node) crumb.sees in
-      let out_high : InRows (entry_name row) H → ⊥ = λ j. O.0 (in_high (before n) (entry_name row) cur j) in
+      let out_high : InRows (entry_name row) H → ⊥ = λ j. O.0 (in_high (is_row_before n) (entry_name row) cur j) in
       let other_fits = fits_frame old c known d e1 (entry_name row) other (λ q j. untouched cur q touched (λ w. O.2 q w j)) F.2 in
       let made = fits_set old c known e1 e2 (high_over (name.Entry i) ss) row H other e id put2 like (high_known old c d (split_over (name.Entry i)) i ss js crumbs) hashes out_high O.1 hf other_fits in
-      let low_made = fits_frame old c known e1 e2 (low_over (name.Entry i) ss) (low (before n) cur) (λ q j. put_other e1 e2 (Some (name.Entry k.parent)) e q put (λ r. O.0 (subst (λ z. InRows z cur) (r ∙ id) (in_low (before n) q cur j)))) lf in
+      let low_made = fits_frame old c known e1 e2 (low_over (name.Entry i) ss) (low (is_row_before n) cur) (λ q j. put_other e1 e2 (Some (name.Entry k.parent)) e q put (λ r. O.0 (subst (λ z. InRows z cur) (r ∙ id) (in_low (is_row_before n) q cur j)))) lf in
       record {
         forks = ss;
         rest = T;
@@ -216,15 +216,15 @@ module _ (n : List ℕ) (old : Shown) (c : Resident) (i : FileId) (d e1 e2 : Dra
       }
 
   step_by : (b : Bool) (row : Row) (other cur : Treap Row) (ss : List Fork) (js : List Crumb) (k : Crumb) (lows highs : Option Link) (link : Link)
-      → around ss (forked (record { row = row; other = other; right = b }) cur) ≡ t → IsCrumb old c d (split_over (name.Entry i) ss (record { row = row; other = other; right = b })) (record { row = row; other = other; right = b }) k → AreCrumbs old c d (split_over (name.Entry i)) ss js → Each (Passes n) ss → b ≡ before n row
-      → Leads old c lows (low (before n) cur) → Leads old c highs (high (before n) cur) → Fits old c (IsKnown d c i) e1 (low_over (name.Entry i) (record { row = row; other = other; right = b } ∷ ss)) (low (before n) cur) → Fits old c (IsKnown d c i) e1 (high_over (name.Entry i) (record { row = row; other = other; right = b } ∷ ss)) (high (before n) cur) → Touches c d e1 cur
+      → around ss (forked (record { row = row; other = other; right = b }) cur) ≡ t → IsCrumb old c d (split_over (name.Entry i) ss (record { row = row; other = other; right = b })) (record { row = row; other = other; right = b }) k → AreCrumbs old c d (split_over (name.Entry i)) ss js → Each (Passes n) ss → b ≡ is_row_before n row
+      → Leads old c lows (low (is_row_before n) cur) → Leads old c highs (high (is_row_before n) cur) → Fits old c (IsKnown d c i) e1 (low_over (name.Entry i) (record { row = row; other = other; right = b } ∷ ss)) (low (is_row_before n) cur) → Fits old c (IsKnown d c i) e1 (high_over (name.Entry i) (record { row = row; other = other; right = b } ∷ ss)) (high (is_row_before n) cur) → Touches c d e1 cur
       → LinksTo (turned b (cond b lows highs) k.node) k.hash link → IsPut e1 e2 (Some (name.Entry k.parent)) (turned b (cond b lows highs) k.node) → Halved n old c i d e2 t js (cond b (Some link) lows) (cond b highs (Some link))
   step_by true row other cur ss js k lows highs link is crumb crumbs passed b ll hl lf hf touched links put = step_low row other cur ss js k lows highs link is crumb crumbs passed (sym b) ll hl lf hf touched links put
   step_by false row other cur ss js k lows highs link is crumb crumbs passed b ll hl lf hf touched links put = step_high row other cur ss js k lows highs link is crumb crumbs passed (sym b) ll hl lf hf touched links put
 
   halved_forks : (forks : List Fork) (rest : Treap Row) (ks : List Crumb) (js : List Crumb) (k : Crumb) (lows highs : Option Link) (link : Link) → ks ≡ js ++ k ∷ []
       → around forks rest ≡ t → AreCrumbs old c d (split_over (name.Entry i)) forks ks → Each (Passes n) forks
-      → Leads old c lows (low (before n) rest) → Leads old c highs (high (before n) rest) → Fits old c (IsKnown d c i) e1 (low_over (name.Entry i) forks) (low (before n) rest) → Fits old c (IsKnown d c i) e1 (high_over (name.Entry i) forks) (high (before n) rest) → Touches c d e1 rest
+      → Leads old c lows (low (is_row_before n) rest) → Leads old c highs (high (is_row_before n) rest) → Fits old c (IsKnown d c i) e1 (low_over (name.Entry i) forks) (low (is_row_before n) rest) → Fits old c (IsKnown d c i) e1 (high_over (name.Entry i) forks) (high (is_row_before n) rest) → Touches c d e1 rest
       → LinksTo (turned k.right (cond k.right lows highs) k.node) k.hash link → IsPut e1 e2 (Some (name.Entry k.parent)) (turned k.right (cond k.right lows highs) k.node) → Halved n old c i d e2 t js (cond k.right (Some link) lows) (cond k.right highs (Some link))
   halved_forks [] rest ks js k lows highs link e is crumbs passed ll hl lf hf touched links put = absurd (no_snoc js k (sym e ∙ crumbs))
   halved_forks (s ∷ ss) rest ks js k lows highs link e is crumbs passed ll hl lf hf touched links put =

@@ -15,7 +15,7 @@ use Rattle.iris_node.specs.Trees.{Shown, IsAbove, IsParent, node_name}
 use Rattle.iris_node.specs.Unfolded.{Unfolded, Absent, Folder, Leaf, Even, Split, Stored, id_of, blocks}
 use Rattle.iris_cache.specs.declared.held.Held.{Held}
 use Rattle.iris_cache.specs.Laws.{AreFormed, IsFormed, IsSide}
-use Rattle.iris_cache.specs.Resident.{Resident, held}
+use Rattle.iris_cache.specs.Resident.{Resident, held_node}
 use Rattle.iris_cache.specs.Pictures.{Pictures, IsLike, Holds, BodyHolds, LinkHolds}
 use Rattle.iris_dirtree.specs.Rows.{IsRooted, IsRootName}
 use Rattle.iris_dirtree.specs.Grafts.{WasHash}
@@ -115,9 +115,9 @@ of_link k i None x is holds = absurd (is x holds)
 of_link k i (Some l) x is holds = (l, refl, is)
 
 module _ (old : Shown) (c : Resident) (i : FileId) (o : Option Link) (x : Hash32) (formed : AreFormed old) (pic : Pictures old c)
-    (found : (h g : Held) → (p : Name) → held c (name.Entry i) ≡ Some h → h.parent ≡ Some p → held c p ≡ Some g → IsLinkIn g.node i o) (is : (l : Link) → o ≡ Some l → l.hash ≡ x) where
+    (found : (h g : Held) → (p : Name) → held_node c (name.Entry i) ≡ Some h → h.parent ≡ Some p → held_node c p ≡ Some g → IsLinkIn g.node i o) (is : (l : Link) → o ≡ Some l → l.hash ≡ x) where
   -- what was found is the hash that the resident parent holds
-  found_held : (h g : Held) (p : Name) → held c (name.Entry i) ≡ Some h → h.parent ≡ Some p → held c p ≡ Some g → IsParent old p (name.Entry i) → Holds g.node (name.Entry i) x
+  found_held : (h g : Held) (p : Name) → held_node c (name.Entry i) ≡ Some h → h.parent ≡ Some p → held_node c p ≡ Some g → IsParent old p (name.Entry i) → Holds g.node (name.Entry i) x
   found_held h g p at up over par =
       let P : Option Unfolded → Type 0 = λ v. IsLike v g.node in
       let like = subst P par.live (pic.nodes p g over) in
@@ -126,16 +126,16 @@ module _ (old : Shown) (c : Resident) (i : FileId) (o : Option Link) (x : Hash32
       subst (Holds g.node (name.Entry i)) (is l.0 l.1) l.2
 
 -- what was found is the true hash, or the one that the resident parent holds
-pub true_hash : (old : Shown) (c : Resident) (i : FileId) (o : Option Link) (x : Hash32) → 2 ≤ i.0 → IsRooted old → AreFormed old → Pictures old c → IsSome (held c (name.Entry i))
-    → ((h g : Held) → (p : Name) → held c (name.Entry i) ≡ Some h → h.parent ≡ Some p → held c p ≡ Some g → IsLinkIn g.node i o) → ((l : Link) → o ≡ Some l → l.hash ≡ x) → WasHash old c (name.Entry i) x
+pub true_hash : (old : Shown) (c : Resident) (i : FileId) (o : Option Link) (x : Hash32) → 2 ≤ i.0 → IsRooted old → AreFormed old → Pictures old c → IsSome (held_node c (name.Entry i))
+    → ((h g : Held) → (p : Name) → held_node c (name.Entry i) ≡ Some h → h.parent ≡ Some p → held_node c p ≡ Some g → IsLinkIn g.node i o) → ((l : Link) → o ≡ Some l → l.hash ≡ x) → WasHash old c (name.Entry i) x
 true_hash old c i o x le rooted formed pic some found is = (
   (λ settled u live. elim (rooted (name.Entry i) u live tt) [
     | inl r ↦ absurd (no_root i le r)
     | inr r ↦
         let n = name.Entry i in
-        let h = got (held c n) some in
+        let h = got (held_node c n) some in
         let up = pic.parents n r.0 h.0 h.1 r.1 in
-        let g = got (held c r.0) up.1 in
+        let g = got (held_node c r.0) up.1 in
         pic.hashes r.0 n g.0 x g.1 (found_held old c i o x formed pic found is h.0 g.0 r.0 h.1 up.0 g.1 r.1) settled u live
   ]),
   (λ h g p at up over. found_held old c i o x formed pic found is h g p at up over (pic.tied (name.Entry i) p h at up)),

@@ -8,12 +8,12 @@ use Rattle.iris_name.specs.declared.name.Name.TheVariants as name
 use Rattle.iris_node.specs.Trees.{Shown, IsAbove}
 use Rattle.iris_node.specs.Unfolded.{Unfolded, id_of, blocks}
 use Rattle.iris_shape.specs.Order.{beats, Rising, Distinct}
-use Rattle.iris_shape.specs.Treap.{Treap, Empty, Over, treap, rows, low, high, insert, put, keep, skip, way, Each, AllApart}
+use Rattle.iris_shape.specs.Treap.{Treap, Empty, Over, treap, rows, low, high, insert, rows_with, keep, skip, way, Each, AllApart}
 use Rattle.iris_shape.proofs.Treaps.{rows_treap}
 use Rattle.iris_shape.proofs.LawProofs.{treap_put, priorities_rank, names_part}
-use Rattle.iris_dirtree.specs.Rows.{Row, Content, Directory, File, row_id, row_name, row_entry, entry_of, entries, up}
-use Rattle.iris_dirtree.specs.Ways.{before}
-use Rattle.iris_dirtree.specs.Planted.{IsRowName, IsWithin}
+use Rattle.iris_dirtree.specs.Rows.{Row, Content, Directory, File, row_id, row_name, row_entry, entry_of, unfolded_rows, up}
+use Rattle.iris_dirtree.specs.Ways.{is_row_before}
+use Rattle.iris_dirtree.specs.Planted.{IsRowName, IsSubtreap}
 use Rattle.iris_dirtree.specs.Grafts.{Fork, entry_name, forked, around, InRows, Once, TopBelow}
 use Rattle.iris_dirtree.proofs.Likes.{Placed, above_less, above_more}
 use Rattle.iris_dirtree.specs.Reached.{size}
@@ -92,7 +92,7 @@ keep_skip p (y ∷ ys) = by (p y) (keep_skip p ys)
     by false h = refl
 
 -- a row that is put in is none of the others
-pub put_fresh : (p : Row → Bool) (x : Row) (xs : List Row) → Distinct row_id (put p x xs) → IsRowName xs (entry_name x) → ⊥
+pub put_fresh : (p : Row → Bool) (x : Row) (xs : List Row) → Distinct row_id (rows_with p x xs) → IsRowName xs (entry_name x) → ⊥
 put_fresh p x xs h i =
     let b = distinct_parts (keep p xs) x (skip p xs) h in
     elim (any_split (λ r. entry_name x ≡ entry_name r) (keep p xs) (skip p xs) (subst (λ v. IsRowName v (entry_name x)) (sym (keep_skip p xs)) i)) [
@@ -100,7 +100,7 @@ put_fresh p x xs h i =
       | inr j ↦ b.not_after j
     ]
 
-pub put_has : (p : Row → Bool) (x : Row) (xs : List Row) (q : Name) → IsRowName xs q → IsRowName (put p x xs) q
+pub put_has : (p : Row → Bool) (x : Row) (xs : List Row) (q : Name) → IsRowName xs q → IsRowName (rows_with p x xs) q
 put_has p x xs q i =
     let P = λ (r : Row). q ≡ entry_name r in
     elim (any_split P (keep p xs) (skip p xs) (subst (λ v. IsRowName v q) (sym (keep_skip p xs)) i)) [
@@ -108,10 +108,10 @@ put_has p x xs q i =
       | inr j ↦ any_right P (keep p xs) (x ∷ skip p xs) (inr j)
     ]
 
-pub put_row : (p : Row → Bool) (x : Row) (xs : List Row) → IsRowName (put p x xs) (entry_name x)
+pub put_row : (p : Row → Bool) (x : Row) (xs : List Row) → IsRowName (rows_with p x xs) (entry_name x)
 put_row p x xs = any_right (λ (r : Row). entry_name x ≡ entry_name r) (keep p xs) (x ∷ skip p xs) (inl refl)
 
-pub put_none : (p : Row → Bool) (x : Row) (xs : List Row) (q : Name) → IsRowName (put p x xs) q → (q ≡ entry_name x) ⊎ IsRowName xs q
+pub put_none : (p : Row → Bool) (x : Row) (xs : List Row) (q : Name) → IsRowName (rows_with p x xs) q → (q ≡ entry_name x) ⊎ IsRowName xs q
 put_none p x xs q i =
     let P = λ (r : Row). q ≡ entry_name r in
     elim (any_split P (keep p xs) (x ∷ skip p xs) i) [
@@ -121,11 +121,11 @@ put_none p x xs q i =
     ]
 
 -- putting a row into the list is putting it into the treap
-pub put_is : (key : List ℕ) (x : Row) (xs : List Row) → Rising row_name xs → Distinct row_id xs → Distinct row_id (put (before x.name) x xs) → treap (up key) (put (before x.name) x xs) ≡ insert (up key) (before x.name) x (treap (up key) xs)
+pub put_is : (key : List ℕ) (x : Row) (xs : List Row) → Rising row_name xs → Distinct row_id xs → Distinct row_id (rows_with (is_row_before x.name) x xs) → treap (up key) (rows_with (is_row_before x.name) x xs) ≡ insert (up key) (is_row_before x.name) x (treap (up key) xs)
 put_is key x xs rising distinct all =
     let r = priorities_rank (priority key) row_id in
-    let apart : AllApart (up key) (x ∷ xs) = r.1 (x ∷ xs) (named_none x xs (put_fresh (before x.name) x xs all), distinct) in
-    treap_put (up key) (before x.name) x xs r.0 apart.1 apart.0 (names_part row_name x.name xs rising).0
+    let apart : AllApart (up key) (x ∷ xs) = r.1 (x ∷ xs) (named_none x xs (put_fresh (is_row_before x.name) x xs all), distinct) in
+    treap_put (up key) (is_row_before x.name) x xs r.0 apart.1 apart.0 (names_part row_name x.name xs rising).0
 
 -- ---- ways in
 
@@ -152,9 +152,9 @@ top_beaten prio i x t e h y l m is = ap (λ j. beats prio j y.id) (sym e) ∙ su
 module _ (known : Name → Type 0) (home : Treap Row) where
   abbrev pub Built : Treap Row → Type 0
   Built Empty = Unit {0}
-  Built (Over y l m) = (IsWithin (Over y l m) home ⊎ known (entry_name y)) × Built l × Built m
+  Built (Over y l m) = (IsSubtreap (Over y l m) home ⊎ known (entry_name y)) × Built l × Built m
 
-  pub built_within : (t : Treap Row) → ((v : Treap Row) → IsWithin v t → IsWithin v home) → Built t
+  pub built_within : (t : Treap Row) → ((v : Treap Row) → IsSubtreap v t → IsSubtreap v home) → Built t
   built_within Empty f = tt
   built_within (Over y l m) f = (inl (f (Over y l m) (inl refl)), built_within l (λ v w. f v (inr (inl w))), built_within m (λ v w. f v (inr (inr w))))
 
@@ -163,11 +163,11 @@ module _ (known : Name → Type 0) (home : Treap Row) where
   low_by p y l m true k bl fl fm h = (inr k, bl, fm h)
   low_by p y l m false k bl fl fm h = fl h
 
-  pub built_low : (p : Row → Bool) (t : Treap Row) → ((v : Treap Row) → IsWithin v t → IsWithin v home) → Each (λ z. known (entry_name z)) (way p t) → Built (low p t)
+  pub built_low : (p : Row → Bool) (t : Treap Row) → ((v : Treap Row) → IsSubtreap v t → IsSubtreap v home) → Each (λ z. known (entry_name z)) (way p t) → Built (low p t)
   built_low p Empty f h = tt
   built_low p (Over y l m) f h =
-      let gl = λ (v : Treap Row) (w : IsWithin v l). f v (inr (inl w)) in
-      let gm = λ (v : Treap Row) (w : IsWithin v m). f v (inr (inr w)) in
+      let gl = λ (v : Treap Row) (w : IsSubtreap v l). f v (inr (inl w)) in
+      let gm = λ (v : Treap Row) (w : IsSubtreap v m). f v (inr (inr w)) in
       low_by p y l m (p y) h.0 (built_within l gl) (built_low p l gl) (built_low p m gm) h.1
 
   high_by : (p : Row → Bool) (y : Row) (l m : Treap Row) (b : Bool) → known (entry_name y) → Built m → (Each (λ z. known (entry_name z)) (way p l) → Built (high p l)) → (Each (λ z. known (entry_name z)) (way p m) → Built (high p m))
@@ -175,31 +175,31 @@ module _ (known : Name → Type 0) (home : Treap Row) where
   high_by p y l m true k bm fl fm h = fm h
   high_by p y l m false k bm fl fm h = (inr k, fl h, bm)
 
-  pub built_high : (p : Row → Bool) (t : Treap Row) → ((v : Treap Row) → IsWithin v t → IsWithin v home) → Each (λ z. known (entry_name z)) (way p t) → Built (high p t)
+  pub built_high : (p : Row → Bool) (t : Treap Row) → ((v : Treap Row) → IsSubtreap v t → IsSubtreap v home) → Each (λ z. known (entry_name z)) (way p t) → Built (high p t)
   built_high p Empty f h = tt
   built_high p (Over y l m) f h =
-      let gl = λ (v : Treap Row) (w : IsWithin v l). f v (inr (inl w)) in
-      let gm = λ (v : Treap Row) (w : IsWithin v m). f v (inr (inr w)) in
+      let gl = λ (v : Treap Row) (w : IsSubtreap v l). f v (inr (inl w)) in
+      let gm = λ (v : Treap Row) (w : IsSubtreap v m). f v (inr (inr w)) in
       high_by p y l m (p y) h.0 (built_within m gm) (built_high p l gl) (built_high p m gm) h.1
 
   around_by : (row : Row) (other t : Treap Row) (b : Bool) → known (entry_name row) → Built other → Built t → Built (cond b (Over row other t) (Over row t other))
   around_by row other t true k bo bt = (inr k, bo, bt)
   around_by row other t false k bo bt = (inr k, bt, bo)
 
-  fork_other : (row : Row) (other t v : Treap Row) (b : Bool) → IsWithin v other → IsWithin v (cond b (Over row other t) (Over row t other))
+  fork_other : (row : Row) (other t v : Treap Row) (b : Bool) → IsSubtreap v other → IsSubtreap v (cond b (Over row other t) (Over row t other))
   fork_other row other t v true w = inr (inl w)
   fork_other row other t v false w = inr (inr w)
 
-  fork_rest : (row : Row) (other t v : Treap Row) (b : Bool) → IsWithin v t → IsWithin v (cond b (Over row other t) (Over row t other))
+  fork_rest : (row : Row) (other t v : Treap Row) (b : Bool) → IsSubtreap v t → IsSubtreap v (cond b (Over row other t) (Over row t other))
   fork_rest row other t v true w = inr (inr w)
   fork_rest row other t v false w = inr (inl w)
 
-  pub within_around : (forks : List Fork) (t v : Treap Row) → IsWithin v t → IsWithin v (around forks t)
+  pub within_around : (forks : List Fork) (t v : Treap Row) → IsSubtreap v t → IsSubtreap v (around forks t)
   within_around [] t v w = w
   within_around (s ∷ ss) t v w = within_around ss (forked s t) v (fork_rest s.row s.other t v s.right w)
 
   -- what is built in the place of what stood at the end of a way of known rows
-  pub built_around : (forks : List Fork) (was now : Treap Row) → ((v : Treap Row) → IsWithin v (around forks was) → IsWithin v home) → Each (λ s. known (entry_name s.row)) forks → Built now → Built (around forks now)
+  pub built_around : (forks : List Fork) (was now : Treap Row) → ((v : Treap Row) → IsSubtreap v (around forks was) → IsSubtreap v home) → Each (λ s. known (entry_name s.row)) forks → Built now → Built (around forks now)
   built_around [] was now f k b = b
   built_around (s ∷ ss) was now f k b =
       built_around ss (forked s was) (forked s now) f k.1
@@ -230,14 +230,14 @@ split_to y a b c d h = by y.id y.name y.content
     by id label (Directory inside) = omega (arith, h)
     by id label (File size counter versions) = omega (arith, h)
 
-pub blocks_split : (p : Row → Bool) (t : Treap Row) → blocks (entries t) ≤ blocks (entries (low p t)) + blocks (entries (high p t))
+pub blocks_split : (p : Row → Bool) (t : Treap Row) → blocks (unfolded_rows t) ≤ blocks (unfolded_rows (low p t)) + blocks (unfolded_rows (high p t))
 blocks_split p Empty = omega arith
 blocks_split p (Over y l m) = by (p y) (blocks_split p l) (blocks_split p m)
   where
-    by : (b : Bool) → blocks (entries l) ≤ blocks (entries (low p l)) + blocks (entries (high p l)) → blocks (entries m) ≤ blocks (entries (low p m)) + blocks (entries (high p m))
-        → blocks (entries (Over y l m)) ≤ blocks (entries (cond b (Over y l (low p m)) (low p l))) + blocks (entries (cond b (high p m) (Over y (high p l) m)))
-    by true hl hm = split_by y (entries l) (entries m) (entries (low p m)) (entries (high p m)) 0 hm
-    by false hl hm = split_to y (entries l) (entries m) (entries (low p l)) (entries (high p l)) hl
+    by : (b : Bool) → blocks (unfolded_rows l) ≤ blocks (unfolded_rows (low p l)) + blocks (unfolded_rows (high p l)) → blocks (unfolded_rows m) ≤ blocks (unfolded_rows (low p m)) + blocks (unfolded_rows (high p m))
+        → blocks (unfolded_rows (Over y l m)) ≤ blocks (unfolded_rows (cond b (Over y l (low p m)) (low p l))) + blocks (unfolded_rows (cond b (high p m) (Over y (high p l) m)))
+    by true hl hm = split_by y (unfolded_rows l) (unfolded_rows m) (unfolded_rows (low p m)) (unfolded_rows (high p m)) 0 hm
+    by false hl hm = split_to y (unfolded_rows l) (unfolded_rows m) (unfolded_rows (low p l)) (unfolded_rows (high p l)) hl
 
 pub over_both : (x : Row) (a b : Unfolded) → blocks a + blocks b ≤ blocks (row_entry x a b)
 over_both x a b = by x.id x.name x.content
@@ -248,28 +248,28 @@ over_both x a b = by x.id x.name x.content
 
 -- ---- a directory is none of its rows
 
-in_size : (t : Shown) (q : Name) (w : Treap Row) → Placed t w → InRows q w → (v : Unfolded) × (t q ≡ Some v) × (size v ≤ size (entries w))
+in_size : (t : Shown) (q : Name) (w : Treap Row) → Placed t w → InRows q w → (v : Unfolded) × (t q ≡ Some v) × (size v ≤ size (unfolded_rows w))
 in_size t q Empty h i = absurd i
-in_size t q (Over y l m) h (inl e) = (entries (Over y l m), ap t e ∙ h.0, omega arith)
+in_size t q (Over y l m) h (inl e) = (unfolded_rows (Over y l m), ap t e ∙ h.0, omega arith)
 in_size t q (Over y l m) h (inr (inl i)) =
     let r = in_size t q l h.1 i in
-    let s = above_larger (entries (Over y l m)) (entries l) (above_less y.id y.name y.content (entries l) (entries m)) in
+    let s = above_larger (unfolded_rows (Over y l m)) (unfolded_rows l) (above_less y.id y.name y.content (unfolded_rows l) (unfolded_rows m)) in
     let a = r.2 in
     (r.0, r.1, omega (arith, s, a))
 in_size t q (Over y l m) h (inr (inr i)) =
     let r = in_size t q m h.2 i in
-    let s = above_larger (entries (Over y l m)) (entries m) (above_more y.id y.name y.content (entries l) (entries m)) in
+    let s = above_larger (unfolded_rows (Over y l m)) (unfolded_rows m) (above_more y.id y.name y.content (unfolded_rows l) (unfolded_rows m)) in
     let a = r.2 in
     (r.0, r.1, omega (arith, s, a))
 
 same_some : (a b : Unfolded) → Some a ≡ Some b → a ≡ b
 same_some a b h = cc
 
-pub none_inside : (t : Shown) (q : Name) (u : Unfolded) (w : Treap Row) → t q ≡ Some u → IsAbove u (entries w) → Placed t w → InRows q w → ⊥
+pub none_inside : (t : Shown) (q : Name) (u : Unfolded) (w : Treap Row) → t q ≡ Some u → IsAbove u (unfolded_rows w) → Placed t w → InRows q w → ⊥
 none_inside t q u w live above placed i =
     let r = in_size t q w placed i in
     let e : r.0 ≡ u = same_some r.0 u (sym r.1 ∙ live) in
-    let s = above_larger u (entries w) above in
+    let s = above_larger u (unfolded_rows w) above in
     let a = r.2 in
     let z = ap size e in
     omega (arith, s, a, z)

@@ -15,14 +15,14 @@ use Rattle.iris_shape.specs.Treap.{Treap, Empty, Over, treap}
 use Rattle.iris_cache.specs.Resident.{Resident}
 use Rattle.iris_cache.specs.Drafted.{Drafted, seen}
 use Rattle.iris_cache.specs.Pictures.{IsLike, parent_after}
-use Rattle.iris_dirtree.specs.Rows.{Row, Content, Directory, File, entry_of, row_entry, entries, up, arranged, IsFolderOf, HasRows}
+use Rattle.iris_dirtree.specs.Rows.{Row, Content, Directory, File, entry_of, row_entry, unfolded_rows, up, treap_of_rows, IsFolderOf, HasRows}
 use Rattle.iris_dirtree.specs.Planted.{Likes, Hang}
 use Rattle.iris_dirtree.proofs.Sees.{Sees}
 
 -- each row of a treap stands under its name, over the entries of its two subtrees
 abbrev pub Placed : Shown → Treap Row → Type 0
 Placed t Empty = Unit {0}
-Placed t (Over y l m) = (t (name.Entry (id_of y.id)) ≡ Some (row_entry y (entries l) (entries m))) × Placed t l × Placed t m
+Placed t (Over y l m) = (t (name.Entry (id_of y.id)) ≡ Some (row_entry y (unfolded_rows l) (unfolded_rows m))) × Placed t l × Placed t m
 
 pub entry_named : (id : ℕ) (label : List ℕ) (c : Content) (l m : Unfolded) → node_name (entry_of id label c l m) ≡ Some (name.Entry (id_of id))
 entry_named id label (Directory inside) l m = refl
@@ -40,13 +40,13 @@ pub above_more : (id : ℕ) (label : List ℕ) (c : Content) (l m : Unfolded) �
 above_more id label (Directory inside) l m = inr (inl refl)
 above_more id label (File size counter versions) l m = inr (inl refl)
 
-pub placed : (t : Shown) (w : Treap Row) → IsTree t → (p : Name) (u : Unfolded) → t p ≡ Some u → IsAbove u (entries w) → Placed t w
+pub placed : (t : Shown) (w : Treap Row) → IsTree t → (p : Name) (u : Unfolded) → t p ≡ Some u → IsAbove u (unfolded_rows w) → Placed t w
 placed t Empty tree p u live above = tt
 placed t (Over y l m) tree p u live above =
-    let at = tree.below p (name.Entry (id_of y.id)) u (entries (Over y l m)) live above (entry_named y.id y.name y.content (entries l) (entries m)) in (
+    let at = tree.below p (name.Entry (id_of y.id)) u (unfolded_rows (Over y l m)) live above (entry_named y.id y.name y.content (unfolded_rows l) (unfolded_rows m)) in (
       at,
-      placed t l tree (name.Entry (id_of y.id)) (entries (Over y l m)) at (above_less y.id y.name y.content (entries l) (entries m)),
-      placed t m tree (name.Entry (id_of y.id)) (entries (Over y l m)) at (above_more y.id y.name y.content (entries l) (entries m)),
+      placed t l tree (name.Entry (id_of y.id)) (unfolded_rows (Over y l m)) at (above_less y.id y.name y.content (unfolded_rows l) (unfolded_rows m)),
+      placed t m tree (name.Entry (id_of y.id)) (unfolded_rows (Over y l m)) at (above_more y.id y.name y.content (unfolded_rows l) (unfolded_rows m)),
     )
 
 -- the entry of a directory, and what stands directly below it inside
@@ -71,18 +71,18 @@ roof_by t dir inside (Some (Split g level index low high)) at is = absurd is
 roof_by t dir inside (Some (Stored version bytes)) at is = absurd is
 
 -- the directory's entry, above the treap of its rows
-pub roof : (t : Shown) (key : List ℕ) (dir : FileId) (rows : List Row) → HasRows t key dir rows → Roof t dir (entries (treap (up key) rows))
-unfolding arranged
-roof t key dir rows has = roof_by t dir (entries (treap (up key) rows)) (t (name.Entry dir)) refl has.entry
+pub roof : (t : Shown) (key : List ℕ) (dir : FileId) (rows : List Row) → HasRows t key dir rows → Roof t dir (unfolded_rows (treap (up key) rows))
+unfolding treap_of_rows
+roof t key dir rows has = roof_by t dir (unfolded_rows (treap (up key) rows)) (t (name.Entry dir)) refl has.entry
 
 -- the rows of a directory stand in their places
 pub placed_rows : (t : Shown) (key : List ℕ) (dir : FileId) (rows : List Row) → IsTree t → HasRows t key dir rows → Placed t (treap (up key) rows)
 placed_rows t key dir rows tree has = let r = roof t key dir rows has in placed t (treap (up key) rows) tree (name.Entry dir) r.entry r.live r.above
 
 -- the top of a treap in its place is a child of the node above it
-pub top_parent : (t : Shown) (p : Name) (u : Unfolded) (y : Row) (l m : Treap Row) → t p ≡ Some u → IsAbove u (entries (Over y l m)) → IsParent t p (name.Entry (id_of y.id))
+pub top_parent : (t : Shown) (p : Name) (u : Unfolded) (y : Row) (l m : Treap Row) → t p ≡ Some u → IsAbove u (unfolded_rows (Over y l m)) → IsParent t p (name.Entry (id_of y.id))
 top_parent t p u y l m live above =
-    record { parent = u; child = entries (Over y l m); live = live; above = above; named = entry_named y.id y.name y.content (entries l) (entries m) }
+    record { parent = u; child = unfolded_rows (Over y l m); live = live; above = above; named = entry_named y.id y.name y.content (unfolded_rows l) (unfolded_rows m) }
 
 module _ (old new : Shown) (d : Drafted) (c : Resident) (see : Sees old new d c) where
   -- what is seen of each row is like its entry
@@ -92,13 +92,13 @@ module _ (old new : Shown) (d : Drafted) (c : Resident) (see : Sees old new d c)
       (λ node at. subst (λ o. IsLike o node) h.0 (see.nodes (name.Entry (id_of y.id)) node at), likes_of l h.1, likes_of m h.2)
 
   -- each row that is seen hangs from the one above it
-  pub hang_of : (p : Name) (u : Unfolded) (w : Treap Row) → new p ≡ Some u → IsAbove u (entries w) → Placed new w → Hang (seen d c) (parent_after d c) p w
+  pub hang_of : (p : Name) (u : Unfolded) (w : Treap Row) → new p ≡ Some u → IsAbove u (unfolded_rows w) → Placed new w → Hang (seen d c) (parent_after d c) p w
   hang_of p u Empty live above h = tt
   hang_of p u (Over y l m) live above h =
       let n = name.Entry (id_of y.id) in (
         λ node at. see.parents n p node at (top_parent new p u y l m live above),
-        hang_of n (entries (Over y l m)) l h.0 (above_less y.id y.name y.content (entries l) (entries m)) h.1,
-        hang_of n (entries (Over y l m)) m h.0 (above_more y.id y.name y.content (entries l) (entries m)) h.2,
+        hang_of n (unfolded_rows (Over y l m)) l h.0 (above_less y.id y.name y.content (unfolded_rows l) (unfolded_rows m)) h.1,
+        hang_of n (unfolded_rows (Over y l m)) m h.0 (above_more y.id y.name y.content (unfolded_rows l) (unfolded_rows m)) h.2,
       )
 
 -- ---- a node that is like a row's entry
@@ -129,9 +129,9 @@ like_part y l m p h = not_part y.id y.name y.content l m p h
 
 -- ---- links that lead to a treap
 
-pub leads_empty : (w : Treap Row) → led_by None ≡ led (entries w) → w ≡ Empty
+pub leads_empty : (w : Treap Row) → led_by None ≡ led (unfolded_rows w) → w ≡ Empty
 leads_empty Empty h = refl
-leads_empty (Over y l m) h = let r = entry_led y.id y.name y.content (entries l) (entries m) in let e : led_by None ≡ Some (record { id = y.id; blocks = r.0 }) = h ∙ r.1 in cc
+leads_empty (Over y l m) h = let r = entry_led y.id y.name y.content (unfolded_rows l) (unfolded_rows m) in let e : led_by None ≡ Some (record { id = y.id; blocks = r.0 }) = h ∙ r.1 in cc
 
 -- the topmost row, and its subtrees
 pub record Top (w : Treap Row) (i : FileId) : Type 0 where
@@ -146,10 +146,10 @@ lead_id None k = k
 lead_id (Some l) k = l.id
 
 -- a link leads to the topmost row
-pub leads_over : (w : Treap Row) (l : Link) → led_by (Some l) ≡ led (entries w) → Top w l.id
+pub leads_over : (w : Treap Row) (l : Link) → led_by (Some l) ≡ led (unfolded_rows w) → Top w l.id
 leads_over Empty k h = cc
 leads_over (Over y l m) k h =
-    let r = entry_led y.id y.name y.content (entries l) (entries m) in
+    let r = entry_led y.id y.name y.content (unfolded_rows l) (unfolded_rows m) in
     let e : led_by (Some k) ≡ Some (record { id = y.id; blocks = r.0 }) = h ∙ r.1 in
     let i : k.id.0 ≡ y.id = ap (λ o. lead_id o 0) e in
     record { row = y; less = l; more = m; is = refl; id_is = ap id_of i }

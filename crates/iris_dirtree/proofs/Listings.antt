@@ -20,9 +20,9 @@ use Rattle.iris_cache.specs.Resident.{Resident}
 use Rattle.iris_cache.specs.Drafted.{Drafted, known, seen}
 use Rattle.iris_cache.proofs.Lacking.{unknown}
 use Rattle.iris_dirtree.specs.Needs.{IsShort, Listed}
-use Rattle.iris_dirtree.specs.Rows.{Row, row_name, row_entry, entries, up}
+use Rattle.iris_dirtree.specs.Rows.{Row, row_name, row_entry, unfolded_rows, up}
 use Rattle.iris_dirtree.specs.Ways.{Any, up_to, along_name, along_each, along_page, following}
-use Rattle.iris_dirtree.specs.Found.{entry_in, inside}
+use Rattle.iris_dirtree.specs.Found.{as_entry, inside}
 use Rattle.iris_dirtree.specs.Piles.{whole, right as right_part, Passed, passed_id, to_list, IsPassed, Tables, Piled, Piling, IsUnderShort}
 use Rattle.iris_dirtree.proofs.Sees.{Sees, sees_drafts}
 use Rattle.iris_dirtree.proofs.Likes.{like_row, above_more}
@@ -87,7 +87,7 @@ module _ (key after : List ℕ) (most : ℕ) (dir : FileId) (d : Drafted) (c : R
   high_is : skip (up_to after) all ≡ rows (high (up_to after) T)
   high_is = sym (rows_high (up_to after) T (falls_up_to after (rows T) rises) ∙ ap (skip (up_to after)) (rows_treap (up key) all))
 
-  pub page_top : (top : Option Link) → IsSome (known d c (name.Entry dir)) → top ≡ inside (entry_in (seen d c (name.Entry dir))) → Page key after most old new d c all [] [] top 0
+  pub page_top : (top : Option Link) → IsSome (known d c (name.Entry dir)) → top ≡ inside (as_entry (seen d c (name.Entry dir))) → Page key after most old new d c all [] [] top 0
   page_top top some e = record {
     done = [];
     left = rows (high (up_to after) T);
@@ -129,17 +129,17 @@ module _ (key after : List ℕ) (most : ℕ) (dir : FileId) (d : Drafted) (c : R
       s.names_are ∙ ap (map row_name) (sym (ap (λ k. take k (skip (up_to after) all)) k ∙ ap (take (length s.done)) s.parts ∙ take-append_seam s.done s.left))
 
   -- what waits is seen
-  pub page_gone : {P : Type 0} (left : List Row) (waiting rest : List FileId) (id : FileId) → Piled new d c T left waiting → waiting ≡ rest ++ id ∷ [] → None ≡ entry_in (seen d c (name.Entry id)) → P
+  pub page_gone : {P : Type 0} (left : List Row) (waiting rest : List FileId) (id : FileId) → Piled new d c T left waiting → waiting ≡ rest ++ id ∷ [] → None ≡ as_entry (seen d c (name.Entry id)) → P
   page_gone left waiting rest id z e none =
       let l = last_of rest id z.pile (sym z.ids_are ∙ e) in
       let one = (each_right (IsPassed new d c T) l.front (l.last ∷ []) (subst (Each (IsPassed new d c T)) l.is z.passed)).0 in
       let at : seen d c (name.Entry id) ≡ Some (node.Entry l.last.entry) = ap (λ i. seen d c (name.Entry i)) (sym l.last_is) ∙ one.is_seen in
-      let f : None ≡ Some l.last.entry = none ∙ ap entry_in at in
+      let f : None ≡ Some l.last.entry = none ∙ ap as_entry at in
       cc
 
   -- the next row is listed
   pub page_next : (names : List (List ℕ)) (ids waiting rest : List FileId) (at : Option Link) (i : ℕ) (id : FileId) (e : EntryFields) (s : Page key after most old new d c all names ids at i) → Piled new d c T s.left waiting → waiting ≡ rest ++ id ∷ []
-      → Some e ≡ entry_in (seen d c (name.Entry id)) → Page key after most old new d c all (names ++ e.name ∷ []) rest e.right (suc i)
+      → Some e ≡ as_entry (seen d c (name.Entry id)) → Page key after most old new d c all (names ++ e.name ∷ []) rest e.right (suc i)
   page_next names ids waiting rest at i id e s z w there =
       let p = up_to after in
       let l = last_of rest id z.pile (sym z.ids_are ∙ w) in
@@ -147,10 +147,10 @@ module _ (key after : List ℕ) (most : ℕ) (dir : FileId) (d : Drafted) (c : R
       let one = (each_right (IsPassed new d c T) l.front (l.last ∷ []) both).0 in
       let y = l.last.row in
       let m = l.last.more in
-      let u = row_entry y (entries l.last.less) (entries m) in
+      let u = row_entry y (unfolded_rows l.last.less) (unfolded_rows m) in
       let n = name.Entry (id_of y.id) in
       let sees : seen d c n ≡ Some (node.Entry e) = ap (λ i. seen d c (name.Entry i)) l.last_is ∙ is_entry (seen d c (name.Entry id)) e there in
-      let like = like_row y (entries l.last.less) (entries m) e (subst (λ o. IsLike o (node.Entry e)) one.live (see.nodes n (node.Entry e) sees)) in
+      let like = like_row y (unfolded_rows l.last.less) (unfolded_rows m) e (subst (λ o. IsLike o (node.Entry e)) one.live (see.nodes n (node.Entry e) sees)) in
       let now : s.left ≡ y ∷ (rows m ++ to_list l.front) = z.left_are ∙ ap to_list l.is ∙ to_list_append l.front (l.last ∷ []) in
       let more : skip p all ≡ (s.done ++ y ∷ []) ++ (rows m ++ to_list l.front) = s.parts ∙ ap (λ l. s.done ++ l) now ∙ sym (append_assoc s.done (y ∷ []) (rows m ++ to_list l.front)) in
       let later = each_right (λ r. p r ≡ false) (s.done ++ y ∷ []) (rows m ++ to_list l.front) (subst (Each (λ r. p r ≡ false)) more (skip_false p all falls)) in
@@ -171,7 +171,7 @@ module _ (key after : List ℕ) (most : ℕ) (dir : FileId) (d : Drafted) (c : R
           passed = each_left (IsPassed new d c T) l.front (l.last ∷ []) both;
           left_are = ap (λ w. rows w ++ to_list l.front) (sym (high_all p m past));
           part = part;
-          leads = way_down old new d c see n u (entries m) (node.Entry e) e.right 0 one.live sees (above_more y.id y.name y.content (entries l.last.less) (entries m)) like.right_is (λ k q. inr (inl (link_holds e.right k q))) tt;
+          leads = way_down old new d c see n u (unfolded_rows m) (node.Entry e) e.right 0 one.live sees (above_more y.id y.name y.content (unfolded_rows l.last.less) (unfolded_rows m)) like.right_is (λ k q. inr (inl (link_holds e.right k q))) tt;
           meets = λ n a. a;
         };
         meets = λ lt x a.

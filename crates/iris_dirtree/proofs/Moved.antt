@@ -1,10 +1,10 @@
 -- The rows of a list with one put in, and of a list without those of a name.
 use Rattle.std.proofs.Common.{◌≡◌, ◌≢◌, ◌⊎◌, ◌&&◌, ◌++◌, inl, inr, Bool, true, false, not, cond, List, [], ◌∷◌, refl, ap, sym, ◌∙◌, subst, true≢false}
 use Rattle.iris_shape.specs.Order.{less_name, Rising, Distinct}
-use Rattle.iris_shape.specs.Treap.{Each, put, keep, skip, without}
+use Rattle.iris_shape.specs.Treap.{Each, rows_with, keep, skip, rows_without}
 use Rattle.iris_shape.proofs.Orders.{less_not}
 use Rattle.iris_dirtree.specs.Rows.{Row, row_id, row_name}
-use Rattle.iris_dirtree.specs.Ways.{is_named}
+use Rattle.iris_dirtree.specs.Ways.{has_name}
 use Rattle.iris_dirtree.proofs.Rowed.{IsIn}
 
 pub each_in : (P : Row → Type 0) (xs : List Row) (y : Row) → IsIn y xs → Each P xs → P y
@@ -60,39 +60,39 @@ parts-in p (y ∷ ys) a h = by (λ k. parts-in p ys a k) (p y) h
     by rest true (inr k) = elim (rest k) [ inl l ↦ inl (inr l) | inr l ↦ inr l ]
     by rest false k = inr k
 
-pub in_put : (p : Row → Bool) (x : Row) (ys : List Row) (a : Row) → IsIn a (put p x ys) → (x ≡ a) ⊎ IsIn a ys
+pub in_put : (p : Row → Bool) (x : Row) (ys : List Row) (a : Row) → IsIn a (rows_with p x ys) → (x ≡ a) ⊎ IsIn a ys
 in_put p x ys a h = elim (in-split (keep p ys) (x ∷ skip p ys) a h) [
   | inl k ↦ inr (keep-in p ys a k)
   | inr k ↦ elim k [ inl e ↦ inl e | inr l ↦ inr (skip-in p ys a l) ]
 ]
 
-pub put_in : (p : Row → Bool) (x : Row) (ys : List Row) (a : Row) → IsIn a ys → IsIn a (put p x ys)
+pub put_in : (p : Row → Bool) (x : Row) (ys : List Row) (a : Row) → IsIn a ys → IsIn a (rows_with p x ys)
 put_in p x ys a h = elim (parts-in p ys a h) [ inl k ↦ in-left (keep p ys) (x ∷ skip p ys) a k | inr k ↦ in-right (keep p ys) (x ∷ skip p ys) a (inr k) ]
 
-pub put_here : (p : Row → Bool) (x : Row) (ys : List Row) → IsIn x (put p x ys)
+pub put_here : (p : Row → Bool) (x : Row) (ys : List Row) → IsIn x (rows_with p x ys)
 put_here p x ys = in-right (keep p ys) (x ∷ skip p ys) x (inl refl)
 
-pub in_without : (e : Row → Bool) (ys : List Row) (a : Row) → IsIn a (without e ys) → IsIn a ys × (e a ≡ false)
+pub in_without : (e : Row → Bool) (ys : List Row) (a : Row) → IsIn a (rows_without e ys) → IsIn a ys × (e a ≡ false)
 in_without e [] a h = absurd h
 in_without e (y ∷ ys) a h = by (λ k. in_without e ys a k) (e y) refl h
   where
-    by : (IsIn a (without e ys) → IsIn a ys × (e a ≡ false)) → (b : Bool) → e y ≡ b → IsIn a (cond b (without e ys) (y ∷ without e ys)) → IsIn a (y ∷ ys) × (e a ≡ false)
+    by : (IsIn a (rows_without e ys) → IsIn a ys × (e a ≡ false)) → (b : Bool) → e y ≡ b → IsIn a (cond b (rows_without e ys) (y ∷ rows_without e ys)) → IsIn a (y ∷ ys) × (e a ≡ false)
     by rest true f k = let r = rest k in (inr r.0, r.1)
     by rest false f (inl k) = (inl k, ap e (sym k) ∙ f)
     by rest false f (inr k) = let r = rest k in (inr r.0, r.1)
 
-pub without_in : (e : Row → Bool) (ys : List Row) (a : Row) → IsIn a ys → e a ≡ false → IsIn a (without e ys)
+pub without_in : (e : Row → Bool) (ys : List Row) (a : Row) → IsIn a ys → e a ≡ false → IsIn a (rows_without e ys)
 without_in e [] a h f = h
 without_in e (y ∷ ys) a h f = by (λ k. without_in e ys a k f) (e y) refl h
   where
-    by : (IsIn a ys → IsIn a (without e ys)) → (b : Bool) → e y ≡ b → IsIn a (y ∷ ys) → IsIn a (cond b (without e ys) (y ∷ without e ys))
+    by : (IsIn a ys → IsIn a (rows_without e ys)) → (b : Bool) → e y ≡ b → IsIn a (y ∷ ys) → IsIn a (cond b (rows_without e ys) (y ∷ rows_without e ys))
     by rest true g (inl k) = absurd (true≢false (sym g ∙ ap e k ∙ f))
     by rest true g (inr k) = rest k
     by rest false g (inl k) = inl k
     by rest false g (inr k) = inr (rest k)
 
 -- a row has its own name
-pub named_self : (x : Row) → is_named x.name x ≡ true
+pub named_self : (x : Row) → has_name x.name x ≡ true
 named_self x = ap (λ b. not b && not (less_name x.name x.name)) (less_not x.name) ∙ ap (λ b. not b) (less_not x.name)
 
 pub not_before : (a b : Bool) → (not a && not b) ≡ true → (a ≡ false) × (b ≡ false)
@@ -101,7 +101,7 @@ not_before false true h = absurd (true≢false (sym h))
 not_before false false h = (refl, refl)
 
 -- rows of a directory with one name are one row
-pub named_same : (xs : List Row) (a b : Row) → Rising row_name xs → IsIn a xs → IsIn b xs → is_named a.name b ≡ true → a ≡ b
+pub named_same : (xs : List Row) (a b : Row) → Rising row_name xs → IsIn a xs → IsIn b xs → has_name a.name b ≡ true → a ≡ b
 named_same [] a b r h k n = absurd h
 named_same (x ∷ xs) a b r (inl h) (inl k) n = sym h ∙ k
 named_same (x ∷ xs) a b r (inl h) (inr k) n =

@@ -15,18 +15,18 @@ use Rattle.iris_node.specs.Fields.{EntryFields}
 use Rattle.iris_node.specs.Nodes.{name_of}
 use Rattle.iris_cache.specs.declared.held.Held.{Held}
 use Rattle.iris_cache.specs.declared.draft.Change.{Change}
-use Rattle.iris_cache.specs.Resident.{Resident, held, IsSound}
+use Rattle.iris_cache.specs.Resident.{Resident, held_node, IsSound}
 use Rattle.iris_cache.specs.Drafted.{Drafted, drafted, seen, known_by, there_by, set_to, IsDraft}
 use Rattle.iris_dirtree.proofs.There.{is_there}
 use Rattle.iris_dirtree.specs.Nodes.{OnlyEntries}
 
-own_by : (d : Drafted) (c : Resident) (n : Name) (k : Node) (o : Option Change) (w : Option Held) → IsDraft d → IsSound c → drafted d n ≡ o → held c n ≡ w → there_by (known_by o w) ≡ Some k → name_of k ≡ n
+own_by : (d : Drafted) (c : Resident) (n : Name) (k : Node) (o : Option Change) (w : Option Held) → IsDraft d → IsSound c → drafted d n ≡ o → held_node c n ≡ w → there_by (known_by o w) ≡ Some k → name_of k ≡ n
 own_by d c n k (Some x) w ds cs de he e = ds.own n x k de e
 own_by d c n k None (Some h) ds cs de he e = let q : h.node ≡ k = cc in sym (ap name_of q) ∙ cs.own n h he
 own_by d c n k None None ds cs de he e = cc
 
 pub seen_own : (d : Drafted) (c : Resident) (n : Name) (k : Node) → IsDraft d → IsSound c → seen d c n ≡ Some k → name_of k ≡ n
-seen_own d c n k ds cs e = own_by d c n k (drafted d n) (held c n) ds cs refl refl e
+seen_own d c n k ds cs e = own_by d c n k (drafted d n) (held_node c n) ds cs refl refl e
 
 entry_id : Name → FileId
 entry_id (name.Entry id) = id
@@ -44,10 +44,10 @@ pub put_off : (d e : Drafted) (p : Option Name) (x : EntryFields) (n : Name) →
 put_off d e p x n set off = set n ∙ ap (λ b. cond b (Some (set_to p (node.Entry x))) (drafted d n)) off
 
 pub seen_same : (d e : Drafted) (c : Resident) (n : Name) → drafted e n ≡ drafted d n → seen e c n ≡ seen d c n
-seen_same d e c n h = ap (λ o. there_by (known_by o (held c n))) h
+seen_same d e c n h = ap (λ o. there_by (known_by o (held_node c n))) h
 
 pub parent_same : (d e : Drafted) (c : Resident) (n : Name) → drafted e n ≡ drafted d n → parent_after e c n ≡ parent_after d c n
-parent_same d e c n h = ap (λ o. parent_by o (held c n)) h
+parent_same d e c n h = ap (λ o. parent_by o (held_node c n)) h
 
 -- what was seen is seen once one name is
 pub still_seen : (d e : Drafted) (c : Resident) (p : Name) (w : Node) → seen e c p ≡ Some w → ((n : Name) → same_name p n ≡ false → drafted e n ≡ drafted d n) → (n : Name) → IsSome (seen d c n) → IsSome (seen e c n)
@@ -63,14 +63,14 @@ stays_seen d e c only n h =
     let P : Option Node → Type 0 = λ o. IsSome o in
     elim (only n) [
       | inl s ↦ subst P (sym (seen_same d e c n s)) h
-      | inr r ↦ subst P (sym (ap (λ o. there_by (known_by o (held c n))) r.4)) refl
+      | inr r ↦ subst P (sym (ap (λ o. there_by (known_by o (held_node c n))) r.4)) refl
     ]
 
 pub put_seen : (d e : Drafted) (c : Resident) (p : Option Name) (x : EntryFields) → IsPut d e p x → seen e c (name.Entry x.id) ≡ Some (node.Entry x)
-put_seen d e c p x put = ap (λ o. there_by (known_by o (held c (name.Entry x.id)))) (put_at d e p x put)
+put_seen d e c p x put = ap (λ o. there_by (known_by o (held_node c (name.Entry x.id)))) (put_at d e p x put)
 
 pub put_parent : (d e : Drafted) (c : Resident) (p : Option Name) (x : EntryFields) → IsPut d e p x → parent_after e c (name.Entry x.id) ≡ p
-put_parent d e c p x put = ap (λ o. parent_by o (held c (name.Entry x.id))) (put_at d e p x put)
+put_parent d e c p x put = ap (λ o. parent_by o (held_node c (name.Entry x.id))) (put_at d e p x put)
 
 pub other_name : (n q : Name) (b : Bool) → same_name n q ≡ b → (q ≡ n → ⊥) → same_name n q ≡ false
 other_name n q true e off = absurd (off (sym (same_name-true n q e)))

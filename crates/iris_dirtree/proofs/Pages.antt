@@ -6,7 +6,7 @@ use Rattle.iris_shape.specs.Order.{less_name, Rising}
 use Rattle.iris_shape.proofs.Orders.{less_through}
 use Rattle.iris_shape.proofs.Treaps.{each_map, each_of, every_of, every_high}
 use Rattle.iris_dirtree.specs.Rows.{Row, row_name}
-use Rattle.iris_dirtree.specs.Ways.{Any, along, before, is_named, up_to, along_name, along_each}
+use Rattle.iris_dirtree.specs.Ways.{Any, along, is_row_before, has_name, up_to, along_name, along_each}
 use Rattle.iris_dirtree.specs.Piles.{Sub, whole, left, right}
 use Rattle.iris_dirtree.proofs.Downs.{any_left, any_right, rising_left, rising_right, rising_before, less_back, less_same}
 
@@ -41,26 +41,26 @@ any_each f Q (x ∷ xs) (inr a) h = any_each f Q xs a h.1
 -- ---- one step towards a row
 
 -- towards a lesser name
-step_left_by : (P : Row → Type 0) (n : List ℕ) (y : Row) (l m : Treap Row) → less_name n y.name ≡ true → Any P (along (before n) (is_named n) l) → Any P (along (before n) (is_named n) (Over y l m))
+step_left_by : (P : Row → Type 0) (n : List ℕ) (y : Row) (l m : Treap Row) → less_name n y.name ≡ true → Any P (along (is_row_before n) (has_name n) l) → Any P (along (is_row_before n) (has_name n) (Over y l m))
 step_left_by P n y l m lt h =
-    let p = before n in
-    let e = is_named n in
+    let p = is_row_before n in
+    let e = has_name n in
     let a : p y ≡ false = less_back n y.name lt in
     let b : e y ≡ false = ap (λ t. not t && not (less_name n y.name)) a ∙ ap (λ t. not t) lt in
     inr (subst (Any P) (sym (cond-false (e y) [] (cond (p y) (along p e m) (along p e l)) b ∙ cond-false (p y) (along p e m) (along p e l) a)) h)
 
 -- towards a greater name
-step_right_by : (P : Row → Type 0) (n : List ℕ) (y : Row) (l m : Treap Row) → less_name y.name n ≡ true → Any P (along (before n) (is_named n) m) → Any P (along (before n) (is_named n) (Over y l m))
+step_right_by : (P : Row → Type 0) (n : List ℕ) (y : Row) (l m : Treap Row) → less_name y.name n ≡ true → Any P (along (is_row_before n) (has_name n) m) → Any P (along (is_row_before n) (has_name n) (Over y l m))
 step_right_by P n y l m lt h =
-    let p = before n in
-    let e = is_named n in
+    let p = is_row_before n in
+    let e = has_name n in
     let b : e y ≡ false = ap (λ t. not t && not (less_name n y.name)) lt in
     inr (subst (Any P) (sym (cond-false (e y) [] (cond (p y) (along p e m) (along p e l)) b ∙ cond-true (p y) (along p e m) (along p e l) lt)) h)
 
-step_left : (P : Row → Type 0) (f y : Row) (l m : Treap Row) → less_name f.name y.name ≡ true → Any P (along (before f.name) (is_named f.name) l) → Any P (along (before f.name) (is_named f.name) (Over y l m))
+step_left : (P : Row → Type 0) (f y : Row) (l m : Treap Row) → less_name f.name y.name ≡ true → Any P (along (is_row_before f.name) (has_name f.name) l) → Any P (along (is_row_before f.name) (has_name f.name) (Over y l m))
 step_left P f y l m lt h = step_left_by P f.name y l m lt h
 
-step_right : (P : Row → Type 0) (f y : Row) (l m : Treap Row) → less_name y.name f.name ≡ true → Any P (along (before f.name) (is_named f.name) m) → Any P (along (before f.name) (is_named f.name) (Over y l m))
+step_right : (P : Row → Type 0) (f y : Row) (l m : Treap Row) → less_name y.name f.name ≡ true → Any P (along (is_row_before f.name) (has_name f.name) m) → Any P (along (is_row_before f.name) (has_name f.name) (Over y l m))
 step_right P f y l m lt h = step_right_by P f.name y l m lt h
 
 -- ---- parts of a treap
@@ -76,7 +76,7 @@ sub_rising t w (left y l m s) h = rising_left row_name (rows l) (y ∷ rows m) (
 sub_rising t w (right y l m s) h = (rising_right row_name (rows l) (y ∷ rows m) (sub_rising t (Over y l m) s h)).1
 
 -- on the way to a row of a part the part is met, and what is met from there on
-pub sub_along : (P : Row → Type 0) (f : Row) (t w : Treap Row) → Sub t w → Rising row_name (rows t) → Any (λ r. r ≡ f) (rows w) → Any P (along (before f.name) (is_named f.name) w) → Any P (along (before f.name) (is_named f.name) t)
+pub sub_along : (P : Row → Type 0) (f : Row) (t w : Treap Row) → Sub t w → Rising row_name (rows t) → Any (λ r. r ≡ f) (rows w) → Any P (along (is_row_before f.name) (has_name f.name) w) → Any P (along (is_row_before f.name) (has_name f.name) t)
 sub_along P f t w whole rise at h = h
 sub_along P f t w (left y l m s) rise at h =
     let R = sub_rising t (Over y l m) s rise in
@@ -94,7 +94,7 @@ pub record Next (P : Row → Type 0) (t : Treap Row) (xs : List Row) : Type 0 wh
   pub row : Row
   pub rest : List Row
   pub is : xs ≡ row ∷ rest
-  pub met : Any P (along (before row.name) (is_named row.name) t)
+  pub met : Any P (along (is_row_before row.name) (has_name row.name) t)
 
 pub next_each : (P Q : Row → Type 0) (t : Treap Row) (xs : List Row) (n : Next P t xs) → Each Q xs → Q n.row
 next_each P Q t xs n h = (subst (Each Q) n.is h).0
@@ -140,10 +140,10 @@ next_less P n y l m lts f s =
     }
 
 abbrev GoesOn : (Row → Type 0) → List ℕ → Treap Row → Type 0
-GoesOn P n t = Any P (way (up_to n) t) → Any P (along (before n) (is_named n) t) ⊎ NextAfter P n t
+GoesOn P n t = Any P (way (up_to n) t) → Any P (along (is_row_before n) (has_name n) t) ⊎ NextAfter P n t
 
 -- going down to the gap after a name meets only what is met on the way to the name, or to the first row after it
-pub way_next : (P : Row → Type 0) (n : List ℕ) (t : Treap Row) → Rising row_name (rows t) → Any P (way (up_to n) t) → Any P (along (before n) (is_named n) t) ⊎ NextAfter P n t
+pub way_next : (P : Row → Type 0) (n : List ℕ) (t : Treap Row) → Rising row_name (rows t) → Any P (way (up_to n) t) → Any P (along (is_row_before n) (has_name n) t) ⊎ NextAfter P n t
 way_next P n Empty rise a = absurd a
 way_next P n (Over y l m) rise (inl a) = inl (inl a)
 way_next P n (Over y l m) rise (inr a) = by (less_name n y.name) refl (way_next P n l (rising_left row_name (rows l) (y ∷ rows m) rise)) (way_next P n m R.1)
@@ -151,7 +151,7 @@ way_next P n (Over y l m) rise (inr a) = by (less_name n y.name) refl (way_next 
     R : Each (λ (z : Row). less_name y.name z.name ≡ true) (rows m) × Rising row_name (rows m)
     R = rising_right row_name (rows l) (y ∷ rows m) rise
 
-    later : (t : Bool) → less_name y.name n ≡ t → less_name n y.name ≡ false → GoesOn P n m → Any P (way (up_to n) m) → Any P (along (before n) (is_named n) (Over y l m)) ⊎ NextAfter P n (Over y l m)
+    later : (t : Bool) → less_name y.name n ≡ t → less_name n y.name ≡ false → GoesOn P n m → Any P (way (up_to n) m) → Any P (along (is_row_before n) (has_name n) (Over y l m)) ⊎ NextAfter P n (Over y l m)
     later true e f im b =
         elim (im b) [
           | inl c ↦ inl (step_right_by P n y l m e c)
@@ -163,7 +163,7 @@ way_next P n (Over y l m) rise (inr a) = by (less_name n y.name) refl (way_next 
         let s = spine P (up_to n) m R.1 all b in
         inr (next_more P n y l m R.0 f (record { row = s.row; rest = s.rest; is = ap rows (high_all (up_to n) m all) ∙ s.is; met = s.met }))
 
-    by : (t : Bool) → less_name n y.name ≡ t → GoesOn P n l → GoesOn P n m → Any P (along (before n) (is_named n) (Over y l m)) ⊎ NextAfter P n (Over y l m)
+    by : (t : Bool) → less_name n y.name ≡ t → GoesOn P n l → GoesOn P n m → Any P (along (is_row_before n) (has_name n) (Over y l m)) ⊎ NextAfter P n (Over y l m)
     by true e il im =
         elim (il (subst (Any P) (cond-false (up_to n y) (way (up_to n) m) (way (up_to n) l) (ap (λ t. not t) e)) a)) [
           | inl c ↦ inl (step_left_by P n y l m e c)

@@ -28,9 +28,9 @@ use Rattle.iris_dirtree.specs.Nodes.{node_blocks}
 use Rattle.iris_dirtree.specs.Places.{down_to, Rooted, whole_walk, IsOnWay, IsPlaceLack}
 use Rattle.iris_dirtree.specs.Turns.{IsTurn, block_found}
 use Rattle.iris_dirtree.specs.Ways.{Any}
-use Rattle.iris_dirtree.specs.Below.{RootIs, IsBelow, LacksBelow, IsBelowLack}
-use Rattle.iris_dirtree.specs.Reached.{size, Past, Stand}
-use Rattle.iris_dirtree.specs.Found.{entry_in}
+use Rattle.iris_dirtree.specs.Below.{RootIs, IsOnWayToBlock, LacksBelow, IsBelowLack}
+use Rattle.iris_dirtree.specs.Reached.{size, MetInOrder, Stand}
+use Rattle.iris_dirtree.specs.Found.{as_entry}
 use Rattle.iris_dirtree.specs.declared.placing.Turn.TheVariants.{Own, Under}
 use Rattle.iris_dirtree.proofs.Sees.{Sees, sees_drafts, root_wanted}
 use Rattle.iris_dirtree.proofs.Pasts.{past_bound}
@@ -41,9 +41,9 @@ use Rattle.iris_dirtree.proofs.Blocks.{turned, turned_own, walk_none, like_block
 pub record Sunk (root : FileId) (old new : Shown) (d : Drafted) (c : Resident) (top : Unfolded) (at : ℕ) (l : Link) (place k : ℕ) : Type 0 where
   pub under : Unfolded
   pub stand : Stand old new d c under l
-  pub past : Past new (seen d c) k (size under)
+  pub past : MetInOrder new (seen d c) k (size under)
   pub same : slice_get (walk under) place ≡ slice_get (walk top) at
-  pub on : IsBelow root at top (name.Entry l.id)
+  pub on : IsOnWayToBlock root at top (name.Entry l.id)
   pub met : (n : Name) → Any (λ i. n ≡ name.Entry (id_of i)) (down_to place under) → Any (λ i. n ≡ name.Entry (id_of i)) (down_to at top)
 
 -- what stands under an entry's name is no part
@@ -79,26 +79,26 @@ module _ (root : FileId) (d : Drafted) (c : Resident) (old new : Shown) (top : U
       }
 
   -- the entry under a name, as it is seen
-  pub like_there : (id : FileId) (u : Unfolded) (e : EntryFields) → new (name.Entry id) ≡ Some u → Some e ≡ entry_in (seen d c (name.Entry id)) → local u ≡ Some (entry_local e e.body)
+  pub like_there : (id : FileId) (u : Unfolded) (e : EntryFields) → new (name.Entry id) ≡ Some u → Some e ≡ as_entry (seen d c (name.Entry id)) → local u ≡ Some (entry_local e e.body)
   like_there id u e live at = subst (λ o. IsLike o (node.Entry e)) live (see.nodes (name.Entry id) (node.Entry e) (is_entry (seen d c (name.Entry id)) e at))
 
-  pub not_seen : (id : FileId) (u : Unfolded) → new (name.Entry id) ≡ Some u → IsSome (known d c (name.Entry id)) → None ≡ entry_in (seen d c (name.Entry id)) → ⊥
+  pub not_seen : (id : FileId) (u : Unfolded) → new (name.Entry id) ≡ Some u → IsSome (known d c (name.Entry id)) → None ≡ as_entry (seen d c (name.Entry id)) → ⊥
   not_seen id u live some none =
       let n = name.Entry id in
       no_entry_by (new n) u (known d c n) live some none (see.gone n tt)
       (λ p at. let h = subst (λ o. IsLike o (node.Part p)) live (see.nodes n (node.Part p) at) in part_apart u id p (live-name new n u (local_of (node.Part p)) see.is live h) h)
 
   module _ (at : ℕ) (l : Link) (place k : ℕ) (s : Sunk root old new d c top at l place k) where
-    pub sunk_lacks : known d c (name.Entry l.id) ≡ None → IsBelow root at top (name.Entry l.id) × IsWanted old new c (name.Entry l.id) (Hash l.hash)
+    pub sunk_lacks : known d c (name.Entry l.id) ≡ None → IsOnWayToBlock root at top (name.Entry l.id) × IsWanted old new c (name.Entry l.id) (Hash l.hash)
     sunk_lacks missing = (s.on, s.stand.wanted missing)
 
-    pub sunk_gone : {P : Type 0} → IsSome (known d c (name.Entry l.id)) → None ≡ entry_in (seen d c (name.Entry l.id)) → P
+    pub sunk_gone : {P : Type 0} → IsSome (known d c (name.Entry l.id)) → None ≡ as_entry (seen d c (name.Entry l.id)) → P
     sunk_gone some none = absurd (not_seen l.id s.under s.stand.live some none)
 
     pub sunk_long : {P : Type 0} → length d.changes + length c.nodes < k → P
     sunk_long lt = let b = past_bound new d c k _ s.past in absurd (omega arith)
 
-    module _ (e : EntryFields) (there : Some e ≡ entry_in (seen d c (name.Entry l.id))) where
+    module _ (e : EntryFields) (there : Some e ≡ as_entry (seen d c (name.Entry l.id))) where
       like : local s.under ≡ Some (entry_local e e.body)
       like = like_there l.id s.under e s.stand.live there
 
@@ -130,12 +130,12 @@ module _ (root : FileId) (d : Drafted) (c : Resident) (old new : Shown) (top : U
           }
 
   -- all blocks at and below the root
-  pub root_blocks : (e : EntryFields) → Some e ≡ entry_in (seen d c (name.Entry root)) → node_blocks e ≡ blocks top
+  pub root_blocks : (e : EntryFields) → Some e ≡ as_entry (seen d c (name.Entry root)) → node_blocks e ≡ blocks top
   root_blocks e there = like_blocks top e e.body (like_there root top e is.live there)
 
 -- why the search stops
 pub below_lack : (root : FileId) (d : Drafted) (c : Resident) (at : ℕ) (e : Short) (id : FileId) (h : Hash32) → e ≡ Need (name.Entry id) (Hash h) → known d c (name.Entry id) ≡ None
-    → ((old new : Shown) (u : Unfolded) → RootIs root d c old new u → IsBelow root at u (name.Entry id) × IsWanted old new c (name.Entry id) (Hash h)) → IsBelowLack root d c at e
+    → ((old new : Shown) (u : Unfolded) → RootIs root d c old new u → IsOnWayToBlock root at u (name.Entry id) × IsWanted old new c (name.Entry id) (Hash h)) → IsBelowLack root d c at e
 below_lack root d c at e id h is missing needed =
     let u = unknown d c (name.Entry id) missing in
     let lacks : LacksBelow root d c at (name.Entry id) (Hash h) = record { unset = u.0; absent = u.1; needed = needed } in
@@ -159,11 +159,11 @@ walk_second root trash at rest e = let n = counted root in sym (get_right (walk 
 pub walk_past : (root trash : Unfolded) (at rest more : ℕ) → at ≡ blocks root + rest → rest ≡ blocks trash + more → None ≡ slice_get (whole_walk root trash) at
 walk_past root trash at rest more e f = let n = counted trash in sym (slice_get_past (walk trash) rest (omega arith)) ∙ walk_second root trash at rest e
 
-way_first : (n : Name) (root trash : Unfolded) (at : ℕ) → at < blocks root → IsBelow (id_of 0) at root n → IsOnWay at root trash n
+way_first : (n : Name) (root trash : Unfolded) (at : ℕ) → at < blocks root → IsOnWayToBlock (id_of 0) at root n → IsOnWay at root trash n
 way_first n root trash at lt (inl e) = inl e
 way_first n root trash at lt (inr m) = inr (inr (subst (λ ids. Any (λ i. n ≡ name.Entry (id_of i)) ids) (sym (cond-true (nat_lt at (blocks root)) (down_to at root) _ (is_less at (blocks root) lt))) m))
 
-way_second : (n : Name) (root trash : Unfolded) (at rest : ℕ) → at ≡ blocks root + rest → rest < blocks trash → IsBelow (id_of 1) rest trash n → IsOnWay at root trash n
+way_second : (n : Name) (root trash : Unfolded) (at rest : ℕ) → at ≡ blocks root + rest → rest < blocks trash → IsOnWayToBlock (id_of 1) rest trash n → IsOnWay at root trash n
 way_second n root trash at rest e lt (inl f) = inr (inl f)
 way_second n root trash at rest e lt (inr m) =
     let z : rest ≡ at - blocks root = omega arith in

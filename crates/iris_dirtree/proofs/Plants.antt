@@ -22,7 +22,7 @@ use Rattle.iris_dirtree.specs.declared.removing.Crumb.{Crumb}
 use Rattle.iris_dirtree.specs.Descents.{Ended}
 use Rattle.iris_dirtree.specs.Nodes.{IsPut}
 use Rattle.iris_dirtree.specs.Planted.{IsRowName, Likes, Hang, Stays}
-use Rattle.iris_dirtree.specs.Rows.{Row, entries, row_entry}
+use Rattle.iris_dirtree.specs.Rows.{Row, unfolded_rows, row_entry}
 use Rattle.iris_dirtree.specs.Steps.{Fork, under, entry_name, above, crumb_above, WasHash, Seat, Seated, Leads, AreCrumbs, Outside, Once, Rising}
 use Rattle.iris_dirtree.proofs.Climbs.{put_stays, seated_same, crumbs_above, above_seen}
 use Rattle.iris_dirtree.proofs.Likes.{like_row, like_part, leads_over, leads_empty}
@@ -52,7 +52,7 @@ module _ (old : Shown) (c : Resident) (t : Treap Row) where
       let n = entry_name y in
       let a = Some (name.Entry (crumb_above dir es)) in
       let seat = seated.0 (node.Entry x) at in
-      let id : name.Entry x.id ≡ n = ap (λ i. name.Entry (id_of i)) (like_row y (entries l) (entries m) x seat.like).id_is in
+      let id : name.Entry x.id ≡ n = ap (λ i. name.Entry (id_of i)) (like_row y (unfolded_rows l) (unfolded_rows m) x seat.like).id_is in
       let top : name.Entry (crumb_above dir es) ≡ above p front = crumbs_above old c t d p dir front es refl crumbs in
       let sees : seen e c n ≡ Some (node.Entry x) = ap (seen e c) (sym id) ∙ put_seen d e c a x put in
       let hangs : parent_after e c n ≡ Some (above p front) = ap (parent_after e c) (sym id) ∙ put_parent d e c a x put ∙ ap Some top in
@@ -68,7 +68,7 @@ module _ (old : Shown) (c : Resident) (t : Treap Row) where
         crumbs = crumbs;
         leads = leads;
         seated = (
-          (λ node' g. same_seat e n (above p front) (row_entry y (entries l) (entries m)) (node.Entry x) node' sees g (record { like = seat.like; parent = hangs; there = stays (above p front) (above_seen old c t d p front es crumbs there); hashes = seat.hashes })),
+          (λ node' g. same_seat e n (above p front) (row_entry y (unfolded_rows l) (unfolded_rows m)) (node.Entry x) node' sees g (record { like = seat.like; parent = hangs; there = stays (above p front) (above_seen old c t d p front es crumbs there); hashes = seat.hashes })),
           (λ none. absurd (not_both (seen e c n) (node.Entry x) sees none)),
           seated_same old c t d e n l (E l apart.0) (λ h. here) seated.2,
           seated_same old c t d e n m (E m apart.1) (λ h. here) seated.3,
@@ -96,7 +96,7 @@ module _ (old : Shown) (c : Resident) (t : Treap Row) where
     where
       never : (x : Node) → seen d c (entry_name y) ≡ Some x → seen d c (entry_name y) ≡ None → ⊥
       never x a b = cc
-  moved_rising d e dir u es end front q y l m k (Some (node.Part p)) is crumbs leads seated once there link id at moved = absurd (like_part y (entries l) (entries m) p (seated.0 (node.Part p) at).like)
+  moved_rising d e dir u es end front q y l m k (Some (node.Part p)) is crumbs leads seated once there link id at moved = absurd (like_part y (unfolded_rows l) (unfolded_rows m) p (seated.0 (node.Part p) at).like)
   moved_rising d e dir u es end front q y l m k (Some (node.Entry x)) is crumbs leads seated once there link id at moved =
       put_rising d e dir u es end front q y l m x is crumbs leads seated once there at (moved.0 k x link (ap (seen d c) id ∙ at))
 

@@ -14,15 +14,15 @@ use Rattle.iris_node.specs.declared.node.Node.{Node}
 use Rattle.iris_node.specs.declared.node.Node.TheVariants.{Entry, Part}
 use Rattle.iris_node.specs.Fields.{EntryFields}
 use Rattle.iris_node.specs.Local.{Local, FolderAt, LeafAt, local, local_of, entry_local, led, led_by, even_by}
-use Rattle.iris_node.specs.Rules.{IsEntry, IsLinked, IsBody, IsDir}
+use Rattle.iris_node.specs.Rules.{IsEntry, IsLinkToNamed, IsBody, IsDir}
 use Rattle.iris_node.specs.Trees.{Shown, IsTree, IsParent, IsNodeName, said}
 use Rattle.iris_node.specs.Unfolded.{Unfolded, Absent, Folder, Leaf, Even, Split, Stored, blocks}
 use Rattle.iris_cache.specs.declared.held.Held.{Held}
 use Rattle.iris_cache.specs.declared.draft.Change.{Change}
-use Rattle.iris_cache.specs.Resident.{Resident, held}
+use Rattle.iris_cache.specs.Resident.{Resident, held_node}
 use Rattle.iris_cache.specs.Drafted.{Drafted, drafted, known, seen, known_by, there_by}
 use Rattle.iris_cache.specs.Pictures.{IsLike, Holds, LinkHolds, BodyHolds, parent_after}
-use Rattle.iris_dirtree.specs.Counts.{count_of, lead_count, said_count, counted_lead, counted, counted_link, counted_body, counted_entry, counted_node, IsCounted, Recounts}
+use Rattle.iris_dirtree.specs.Counts.{count_of, lead_count, said_count, counted_lead, with_blocks, counted_link, counted_body, counted_entry, counted_node, IsCounted, Recounts}
 use Rattle.iris_dirtree.specs.Hands.{Holding, IsBelowHand, IsOut}
 use Rattle.iris_dirtree.specs.Lags.{Lags, IsUpFrom}
 use Rattle.iris_dirtree.specs.Planted.{IsOver, next, far}
@@ -71,11 +71,11 @@ led-counted : (n : Name) (k : ℕ) (l : Option Link) → led_by (counted_link n 
 led-counted n k None = refl
 led-counted n k (Some l) = refl
 
-entry-counted : (n : Name) (k : ℕ) (e : EntryFields) (b : Body) → entry_local (counted_entry n k e) (counted_body n k b) ≡ counted n k (entry_local e b)
+entry-counted : (n : Name) (k : ℕ) (e : EntryFields) (b : Body) → entry_local (counted_entry n k e) (counted_body n k b) ≡ with_blocks n k (entry_local e b)
 entry-counted n k e (Dir top) = λ i. FolderAt e.id.0 e.name (led-counted n k e.left i) (led-counted n k e.right i) (led-counted n k top i)
 entry-counted n k e (File length counter versions) = λ i. LeafAt e.id.0 e.name (led-counted n k e.left i) (led-counted n k e.right i) length counter (even_by versions)
 
-pub node_counted : (n : Name) (k : ℕ) (g : Node) → local_of (counted_node n k g) ≡ counted n k (local_of g)
+pub node_counted : (n : Name) (k : ℕ) (g : Node) → local_of (counted_node n k g) ≡ with_blocks n k (local_of g)
 node_counted n k (Entry e) = entry-counted n k e e.body
 node_counted n k (Part p) = refl
 
@@ -94,7 +94,7 @@ node_holds n k (Entry e) m h (inr (inl x)) = inr (inl (link-holds n k e.right m 
 node_holds n k (Entry e) m h (inr (inr x)) = inr (inr (body-holds n k e.id e.body m h x))
 node_holds n k (Part p) m h x = x
 
-link-kept : (n : Name) (k : ℕ) (l : Option Link) → IsLinked l → IsLinked (counted_link n k l)
+link-kept : (n : Name) (k : ℕ) (l : Option Link) → IsLinkToNamed l → IsLinkToNamed (counted_link n k l)
 link-kept n k None h = h
 link-kept n k (Some l) h = h
 
@@ -162,8 +162,8 @@ module _ (old new made : Shown) (hand : Option Row) (at p : Name) (d e : Drafted
 
   up-like : IsLike (made p) (counted_node at count was.0)
   up-like = said_like (made p) (counted_node at count was.0) (
-      lags.counts p at parent (inl refl) ∙ ap (λ k. option_map (counted at k) (said (new p))) count-is
-      ∙ ap (option_map (counted at count)) (like_said (new p) was.0 (lags.above p was.0 was.1 (next p at parent))) ∙ ap Some (sym (node_counted at count was.0)))
+      lags.counts p at parent (inl refl) ∙ ap (λ k. option_map (with_blocks at k) (said (new p))) count-is
+      ∙ ap (option_map (with_blocks at count)) (like_said (new p) was.0 (lags.above p was.0 was.1 (next p at parent))) ∙ ap Some (sym (node_counted at count was.0)))
 
   says : IsCounted at p d c → said (made p) ≡ said (new p)
   says right =
@@ -177,10 +177,10 @@ module _ (old new made : Shown) (hand : Option Row) (at p : Name) (d e : Drafted
     same : ((n ≡ p) × (k ≡ counted_node at count was.0)) ⊎ ((same_name p n ≡ false) × (k ≡ node))
 
   seen-other : (n : Name) → same_name p n ≡ false → seen e c n ≡ seen d c n
-  seen-other n b = ap (λ o. there_by (known_by o (held c n))) (step.others n b)
+  seen-other n b = ap (λ o. there_by (known_by o (held_node c n))) (step.others n b)
 
   known-other : (n : Name) → same_name p n ≡ false → known e c n ≡ known d c n
-  known-other n b = ap (λ o. known_by o (held c n)) (step.others n b)
+  known-other n b = ap (λ o. known_by o (held_node c n)) (step.others n b)
 
   from-by : (n : Name) (k : Node) (b : Bool) → same_name p n ≡ b → seen e c n ≡ Some k → From n k
   from-by n k true b s =
@@ -218,14 +218,14 @@ module _ (old new made : Shown) (hand : Option Row) (at p : Name) (d e : Drafted
   away-by n true b is k = absurd (known-there (known e c n) (subst (λ m. IsSome (seen e c m)) (same_name-true p n b) (is_there (seen e c p) (counted_node at count was.0) now)) k)
   away-by n false b is k = lags.away n is (sym (known-other n b) ∙ k)
 
-  here : IsSome (held c p) ⊎ (old p ≡ None)
-  here = elim (seen-where (drafted d p) (held c p) sees) [ inl s ↦ (let x = got (drafted d p) s in lags.resident p x.0 x.1) | inr s ↦ inl s ]
+  here : IsSome (held_node c p) ⊎ (old p ≡ None)
+  here = elim (seen-where (drafted d p) (held_node c p) sees) [ inl s ↦ (let x = got (drafted d p) s in lags.resident p x.0 x.1) | inr s ↦ inl s ]
 
-  resident-by : (n : Name) (change : Change) (b : Bool) → same_name p n ≡ b → drafted e n ≡ Some change → IsSome (held c n) ⊎ (old n ≡ None)
-  resident-by n change true b is = subst (λ m. IsSome (held c m) ⊎ (old m ≡ None)) (same_name-true p n b) here
+  resident-by : (n : Name) (change : Change) (b : Bool) → same_name p n ≡ b → drafted e n ≡ Some change → IsSome (held_node c n) ⊎ (old n ≡ None)
+  resident-by n change true b is = subst (λ m. IsSome (held_node c m) ⊎ (old m ≡ None)) (same_name-true p n b) here
   resident-by n change false b is = lags.resident n change (sym (step.others n b) ∙ is)
 
-  counts-up : (q m : Name) → IsParent made q m → IsUpFrom made p m → said (made q) ≡ option_map (counted m (count_of (made m))) (said (new q))
+  counts-up : (q m : Name) → IsParent made q m → IsUpFrom made p m → said (made q) ≡ option_map (with_blocks m (count_of (made m))) (said (new q))
   counts-up q m is (inl e) = lags.counts q m is (inr (subst (λ x. IsOver made x at) (sym e) (next p at parent)))
   counts-up q m is (inr o) = lags.counts q m is (inr (far m p at parent o))
 

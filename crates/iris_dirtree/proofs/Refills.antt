@@ -9,7 +9,7 @@ use Rattle.iris_name.specs.declared.name.Name.TheVariants as name
 use Rattle.iris_node.specs.Local.{FolderAt, LeafAt, local, led, even}
 use Rattle.iris_node.specs.Trees.{Shown, IsTree, IsParent, IsAbove, node_name}
 use Rattle.iris_node.specs.Unfolded.{Unfolded, Absent, Folder, Leaf, Even, Split, Stored, id_of, blocks}
-use Rattle.iris_dirtree.specs.Counts.{count_of, counted, counted_lead}
+use Rattle.iris_dirtree.specs.Counts.{count_of, with_blocks, counted_lead}
 use Rattle.iris_dirtree.specs.Lags.{IsUpFrom}
 use Rattle.iris_dirtree.specs.Planted.{IsOver, next, far}
 use Rattle.iris_dirtree.specs.Rows.{refilled}
@@ -171,7 +171,7 @@ module _ (t : Shown) (tree : IsTree t) (i : ℕ) (inside : Unfolded) where
 
   -- what a refilled node says by itself, where it stands above the directory
   pub refilled_counts : (v : Unfolded) (p q : Name) → t p ≡ Some (refilled i inside v) → node_name v ≡ Some p → (p ≡ name.Entry (id_of i) → ⊥) → IsParent t p q → IsUpFrom t (name.Entry (id_of i)) q
-      → local (refilled i inside v) ≡ option_map (counted q (count_of (t q))) (local v)
+      → local (refilled i inside v) ≡ option_map (with_blocks q (count_of (t q))) (local v)
   refilled_counts (Folder id label less more kept) p q live named apart parent up =
       let u = refilled i inside (Folder id label less more kept) in
       let k = count_of (t q) in

@@ -9,13 +9,13 @@ use Rattle.iris_name.specs.declared.name.Name.TheVariants as name
 use Rattle.iris_node.specs.Local.{FolderAt, LeafAt, local, local_of, led, even}
 use Rattle.iris_node.specs.Trees.{Shown, IsTree, IsParent, IsAbove, node_name, said}
 use Rattle.iris_node.specs.Unfolded.{Unfolded, Absent, Folder, Leaf, Even, Split, Stored, id_of, blocks}
-use Rattle.iris_cache.specs.Applied.{above}
+use Rattle.iris_cache.specs.Applied.{is_above_within}
 use Rattle.iris_cache.specs.Resident.{Resident}
 use Rattle.iris_cache.specs.Drafted.{Drafted, seen}
 use Rattle.iris_cache.specs.Pictures.{parent_after}
 use Rattle.iris_cache.proofs.Rising.{above-none, or-split}
 use Rattle.iris_cache.proofs.Ways.{over-met}
-use Rattle.iris_dirtree.specs.Counts.{count_of, counted, counted_lead, IsCounted, Recounts}
+use Rattle.iris_dirtree.specs.Counts.{count_of, with_blocks, counted_lead, IsCounted, Recounts}
 use Rattle.iris_dirtree.specs.Hands.{Holding}
 use Rattle.iris_dirtree.specs.Lags.{Lags, IsUpFrom}
 use Rattle.iris_dirtree.specs.Planted.{IsOver, next, far}
@@ -41,7 +41,7 @@ lead-same s m (Even version) live = refl
 lead-same s m (Split file level index low high) live = refl
 lead-same s m (Stored version bytes) live = refl
 
-node-same : (s : Shown) → IsTree s → (q m : Name) (v : Unfolded) → s q ≡ Some v → option_map (counted m (count_of (s m))) (local v) ≡ local v
+node-same : (s : Shown) → IsTree s → (q m : Name) (v : Unfolded) → s q ≡ Some v → option_map (with_blocks m (count_of (s m))) (local v) ≡ local v
 node-same s tree q m (Folder id label less more kept) live =
     let v = Folder id label less more kept in
     let a = lead-same s m less (λ n e. tree.below q n v less live (inl refl) e) in
@@ -58,12 +58,12 @@ node-same s tree q m (Even version) live = refl
 node-same s tree q m (Split file level index low high) live = refl
 node-same s tree q m (Stored version bytes) live = refl
 
-shown-same : (s : Shown) → IsTree s → (q m : Name) → option_map (counted m (count_of (s m))) (said (s q)) ≡ said (s q)
+shown-same : (s : Shown) → IsTree s → (q m : Name) → option_map (with_blocks m (count_of (s m))) (said (s q)) ≡ said (s q)
 shown-same s tree q m = by (s q) refl
   where
-    by : (o : Option Unfolded) → s q ≡ o → option_map (counted m (count_of (s m))) (said (s q)) ≡ said (s q)
-    by None live = ap (λ o. option_map (counted m (count_of (s m))) (said o)) live ∙ sym (ap said live)
-    by (Some v) live = ap (λ o. option_map (counted m (count_of (s m))) (said o)) live ∙ node-same s tree q m v live ∙ sym (ap said live)
+    by : (o : Option Unfolded) → s q ≡ o → option_map (with_blocks m (count_of (s m))) (said (s q)) ≡ said (s q)
+    by None live = ap (λ o. option_map (with_blocks m (count_of (s m))) (said o)) live ∙ sym (ap said live)
+    by (Some v) live = ap (λ o. option_map (with_blocks m (count_of (s m))) (said o)) live ∙ node-same s tree q m v live ∙ sym (ap said live)
 
 above-said : (u w : Unfolded) → IsAbove u w → IsSome (local u)
 above-said (Folder id label less more kept) w h = refl
@@ -86,7 +86,7 @@ module _ (old new made : Shown) (hand : Option Row) (p : Name) (e : Drafted) (c 
   up-same q m parent way same there =
       let l = got (said (made m)) there in
       let k : count_of (made m) ≡ count_of (new m) = said_counted (made m) l.0 l.1 ∙ sym (said_counted (new m) l.0 (sym same ∙ l.1)) in
-      lags.counts q m parent way ∙ ap (λ n. option_map (counted m n) (said (new q))) k ∙ shown-same new is q m
+      lags.counts q m parent way ∙ ap (λ n. option_map (with_blocks m n) (said (new q))) k ∙ shown-same new is q m
 
   all-same : (n m : Name) → IsOver made n m → IsUpFrom made p m → said (made m) ≡ said (new m) → IsSome (said (made m)) → said (made n) ≡ said (new n)
   all-same _ _ (next n m h) way same there = up-same n m h way same there
@@ -102,7 +102,7 @@ module _ (old new made : Shown) (hand : Option Row) (p : Name) (e : Drafted) (c 
 
   -- ---- which names stand above
 
-  over-way : (n m : Name) → IsOver made n m → IsSome (seen e c m) → (k : ℕ) × (above over k (Some m) n ≡ true)
+  over-way : (n m : Name) → IsOver made n m → IsSome (seen e c m) → (k : ℕ) × (is_above_within over k (Some m) n ≡ true)
   over-way _ _ (next n m h) s = let g = got (seen e c m) s in (2, at-parent over m n ((lags.parents m n g.0 g.1 h).0))
   over-way _ _ (far n q m h o) s =
       let g = got (seen e c m) s in
@@ -113,7 +113,7 @@ module _ (old new made : Shown) (hand : Option Row) (p : Name) (e : Drafted) (c 
   Decided : Name → Name → Type 0
   Decided n m = IsOver made n m ⊎ (IsOver made n m → ⊥)
 
-  decide-up : (k : ℕ) (m q n : Name) → IsSome (seen e c m) → over m ≡ Some q → above over k (Some q) n ≡ true → (IsSome (seen e c q) → Decided n q) → Decided n m
+  decide-up : (k : ℕ) (m q n : Name) → IsSome (seen e c m) → over m ≡ Some q → is_above_within over k (Some q) n ≡ true → (IsSome (seen e c q) → Decided n q) → Decided n m
   unfolding Decided
   decide-up k m q n s up way rest =
       let g = got (seen e c m) s in
@@ -131,21 +131,21 @@ module _ (old new made : Shown) (hand : Option Row) (p : Name) (e : Drafted) (c 
       by false f parent (inl o) = inl (far n q m parent o)
       by false f parent (inr free) = inr (λ o. elim (over_parent made made_is n m q o parent) [ inl z ↦ true≢false (sym (ap (same_name q) z ∙ same_name-refl q) ∙ f) | inr z ↦ free z ])
 
-  decide : (k : ℕ) (m n : Name) → IsSome (seen e c m) → above over k (Some m) n ≡ true → Decided n m
+  decide : (k : ℕ) (m n : Name) → IsSome (seen e c m) → is_above_within over k (Some m) n ≡ true → Decided n m
   unfolding Decided
   decide zero m n s way = absurd (true≢false (sym way))
-  decide (suc k) m n s way = by (λ q. decide k q n) (or-split (same_name m n) (above over k (over m) n) way) (over m) refl
+  decide (suc k) m n s way = by (λ q. decide k q n) (or-split (same_name m n) (is_above_within over k (over m) n) way) (over m) refl
     where
-      by : ((q : Name) → IsSome (seen e c q) → above over k (Some q) n ≡ true → Decided n q) → (same_name m n ≡ true) ⊎ (above over k (over m) n ≡ true) → (o : Option Name) → over m ≡ o → IsOver made n m ⊎ (IsOver made n m → ⊥)
+      by : ((q : Name) → IsSome (seen e c q) → is_above_within over k (Some q) n ≡ true → Decided n q) → (same_name m n ≡ true) ⊎ (is_above_within over k (over m) n ≡ true) → (o : Option Name) → over m ≡ o → IsOver made n m ⊎ (IsOver made n m → ⊥)
       by rest (inl x) o up = inr (λ h. never_over made made_is n m h (sym (same_name-true m n x)))
-      by rest (inr x) None up = absurd (true≢false (sym x ∙ ap (λ z. above over k z n) up ∙ above-none over k n))
-      by rest (inr x) (Some q) up = let w = ap (λ z. above over k z n) (sym up) ∙ x in decide-up k m q n s up w (λ t. rest q t w)
+      by rest (inr x) None up = absurd (true≢false (sym x ∙ ap (λ z. is_above_within over k z n) up ∙ above-none over k n))
+      by rest (inr x) (Some q) up = let w = ap (λ z. is_above_within over k z n) (sym up) ∙ x in decide-up k m q n s up w (λ t. rest q t w)
 
   decided : (n : Name) → Decided n p
   unfolding Decided
-  decided n = by (above over (length c.nodes + length e.changes + 1) (Some p) n) refl
+  decided n = by (is_above_within over (length c.nodes + length e.changes + 1) (Some p) n) refl
     where
-      by : (b : Bool) → above over (length c.nodes + length e.changes + 1) (Some p) n ≡ b → IsOver made n p ⊎ (IsOver made n p → ⊥)
+      by : (b : Bool) → is_above_within over (length c.nodes + length e.changes + 1) (Some p) n ≡ b → IsOver made n p ⊎ (IsOver made n p → ⊥)
       by true h = decide (length c.nodes + length e.changes + 1) p n lags.there h
       by false h = inr (λ o. true≢false (sym (over-met e c p n (over-way n p o lags.there)) ∙ h))
 

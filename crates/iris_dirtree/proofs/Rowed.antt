@@ -9,8 +9,8 @@ use Rattle.iris_node.specs.Trees.{Shown, IsParent, IsAbove, node_name}
 use Rattle.iris_node.specs.Unfolded.{Unfolded, id_of}
 use Rattle.iris_shape.specs.Treap.{Treap, Empty, Over, rows}
 use Rattle.iris_cache.specs.Pictures.{IsLike}
-use Rattle.iris_dirtree.specs.Planted.{Likes, Hang, IsWithin, Stays, IsOver, next}
-use Rattle.iris_dirtree.specs.Rows.{Row, Content, Directory, File, row_entry, entry_of, entries, below_row, has_id}
+use Rattle.iris_dirtree.specs.Planted.{Likes, Hang, IsSubtreap, Stays, IsOver, next}
+use Rattle.iris_dirtree.specs.Rows.{Row, Content, Directory, File, row_entry, entry_of, unfolded_rows, below_row, has_id}
 use Rattle.iris_dirtree.specs.Ways.{Any}
 use Rattle.iris_dirtree.proofs.Likes.{Placed, entry_named, above_less, above_more, top_parent}
 use Rattle.iris_dirtree.proofs.Sizes.{over_through}
@@ -61,7 +61,7 @@ in_has (x ∷ xs) i h = elim (or-split (x.id == i) (has_id i xs) h) [
 
 -- ---- treaps
 
-pub within_rows : (w : Treap Row) (y : Row) (l m : Treap Row) → IsWithin (Over y l m) w → IsIn y (rows w)
+pub within_rows : (w : Treap Row) (y : Row) (l m : Treap Row) → IsSubtreap (Over y l m) w → IsIn y (rows w)
 within_rows Empty y l m h = absurd h
 within_rows (Over z a b) y l m (inl e) = any-right (λ r. r ≡ y) (rows a) (z ∷ rows b) (inl (sym (top e)))
   where
@@ -78,7 +78,7 @@ within_rows (Over z a b) y l m (inr (inr h)) = any-right (λ r. r ≡ y) (rows a
 pub record Within (w : Treap Row) (y : Row) : Type 0 where
   pub less : Treap Row
   pub more : Treap Row
-  pub within : IsWithin (Over y less more) w
+  pub within : IsSubtreap (Over y less more) w
 
 pub rows_within : (w : Treap Row) (y : Row) → IsIn y (rows w) → Within w y
 rows_within Empty y h = absurd h
@@ -90,17 +90,17 @@ rows_within (Over z a b) y h = elim (any-split (λ r. r ≡ y) (rows a) (z ∷ r
   ]
 ]
 
-pub within_through : (v w x : Treap Row) → IsWithin v w → IsWithin w x → IsWithin v x
+pub within_through : (v w x : Treap Row) → IsSubtreap v w → IsSubtreap w x → IsSubtreap v x
 within_through v w Empty h k = k
-within_through v w (Over y l m) h (inl e) = subst (IsWithin v) e h
+within_through v w (Over y l m) h (inl e) = subst (IsSubtreap v) e h
 within_through v w (Over y l m) h (inr (inl k)) = inr (inl (within_through v w l h k))
 within_through v w (Over y l m) h (inr (inr k)) = inr (inr (within_through v w m h k))
 
-pub less_within : (y : Row) (l m x : Treap Row) (z : Row) (a b : Treap Row) → l ≡ Over z a b → IsWithin (Over y l m) x → IsWithin (Over z a b) x
-less_within y l m x z a b e h = within_through (Over z a b) (Over y l m) x (inr (inl (subst (IsWithin (Over z a b)) (sym e) (inl refl)))) h
+pub less_within : (y : Row) (l m x : Treap Row) (z : Row) (a b : Treap Row) → l ≡ Over z a b → IsSubtreap (Over y l m) x → IsSubtreap (Over z a b) x
+less_within y l m x z a b e h = within_through (Over z a b) (Over y l m) x (inr (inl (subst (IsSubtreap (Over z a b)) (sym e) (inl refl)))) h
 
-pub more_within : (y : Row) (l m x : Treap Row) (z : Row) (a b : Treap Row) → m ≡ Over z a b → IsWithin (Over y l m) x → IsWithin (Over z a b) x
-more_within y l m x z a b e h = within_through (Over z a b) (Over y l m) x (inr (inr (subst (IsWithin (Over z a b)) (sym e) (inl refl)))) h
+pub more_within : (y : Row) (l m x : Treap Row) (z : Row) (a b : Treap Row) → m ≡ Over z a b → IsSubtreap (Over y l m) x → IsSubtreap (Over z a b) x
+more_within y l m x z a b e h = within_through (Over z a b) (Over y l m) x (inr (inr (subst (IsSubtreap (Over z a b)) (sym e) (inl refl)))) h
 
 -- the topmost row, where there is an entry
 pub record Topped (w : Treap Row) (n : Name) : Type 0 where
@@ -110,18 +110,18 @@ pub record Topped (w : Treap Row) (n : Name) : Type 0 where
   pub is : w ≡ Over row less more
   pub named : n ≡ name.Entry (id_of row.id)
 
-pub entries_topped : (w : Treap Row) (n : Name) → node_name (entries w) ≡ Some n → Topped w n
+pub entries_topped : (w : Treap Row) (n : Name) → node_name (unfolded_rows w) ≡ Some n → Topped w n
 entries_topped Empty n h = absurd (true≢false (sym (ap is_some h)))
 entries_topped (Over y l m) n h =
-    record { row = y; less = l; more = m; is = refl; named = one_of n (name.Entry (id_of y.id)) (sym h ∙ entry_named y.id y.name y.content (entries l) (entries m)) }
+    record { row = y; less = l; more = m; is = refl; named = one_of n (name.Entry (id_of y.id)) (sym h ∙ entry_named y.id y.name y.content (unfolded_rows l) (unfolded_rows m)) }
 
 -- ---- what is so of each row
 
 abbrev PlacedHere : Shown → Treap Row → Type 0
 PlacedHere t Empty = Unit {0}
-PlacedHere t (Over y l m) = t (name.Entry (id_of y.id)) ≡ Some (row_entry y (entries l) (entries m))
+PlacedHere t (Over y l m) = t (name.Entry (id_of y.id)) ≡ Some (row_entry y (unfolded_rows l) (unfolded_rows m))
 
-pub placed_at : (t : Shown) (w v : Treap Row) → Placed t w → IsWithin v w → PlacedHere t v
+pub placed_at : (t : Shown) (w v : Treap Row) → Placed t w → IsSubtreap v w → PlacedHere t v
 placed_at t Empty v p h = absurd h
 placed_at t (Over y l m) v p (inl e) = subst (PlacedHere t) (sym e) p.0
 placed_at t (Over y l m) v p (inr (inl h)) = placed_at t l v p.1 h
@@ -129,9 +129,9 @@ placed_at t (Over y l m) v p (inr (inr h)) = placed_at t m v p.2 h
 
 abbrev LikesHere : (Name → Option Node) → Treap Row → Type 0
 LikesHere s Empty = Unit {0}
-LikesHere s (Over y l m) = (node : Node) → s (name.Entry (id_of y.id)) ≡ Some node → IsLike (Some (row_entry y (entries l) (entries m))) node
+LikesHere s (Over y l m) = (node : Node) → s (name.Entry (id_of y.id)) ≡ Some node → IsLike (Some (row_entry y (unfolded_rows l) (unfolded_rows m))) node
 
-pub likes_at : (s : Name → Option Node) (w v : Treap Row) → Likes s w → IsWithin v w → LikesHere s v
+pub likes_at : (s : Name → Option Node) (w v : Treap Row) → Likes s w → IsSubtreap v w → LikesHere s v
 likes_at s Empty v p h = absurd h
 likes_at s (Over y l m) v p (inl e) = subst (LikesHere s) (sym e) p.0
 likes_at s (Over y l m) v p (inr (inl h)) = likes_at s l v p.1 h
@@ -139,9 +139,9 @@ likes_at s (Over y l m) v p (inr (inr h)) = likes_at s m v p.2 h
 
 abbrev StaysHere : (Name → Option Node) → Treap Row → Treap Row → Type 0
 StaysHere s t Empty = Unit {0}
-StaysHere s t (Over y l m) = s (name.Entry (id_of y.id)) ≡ None → IsWithin (Over y l m) t
+StaysHere s t (Over y l m) = s (name.Entry (id_of y.id)) ≡ None → IsSubtreap (Over y l m) t
 
-pub stays_at : (s : Name → Option Node) (t w v : Treap Row) → Stays s t w → IsWithin v w → StaysHere s t v
+pub stays_at : (s : Name → Option Node) (t w v : Treap Row) → Stays s t w → IsSubtreap v w → StaysHere s t v
 stays_at s t Empty v p h = absurd h
 stays_at s t (Over y l m) v p (inl e) = subst (StaysHere s t) (sym e) p.0
 stays_at s t (Over y l m) v p (inr (inl h)) = stays_at s t l v p.1 h
@@ -152,12 +152,12 @@ abbrev pub Stands : Shown → Name → Treap Row → Type 0
 Stands t p Empty = Unit {0}
 Stands t p (Over y l m) = IsParent t p (name.Entry (id_of y.id)) × Stands t (name.Entry (id_of y.id)) l × Stands t (name.Entry (id_of y.id)) m
 
-pub stands : (t : Shown) (w : Treap Row) (p : Name) (u : Unfolded) → t p ≡ Some u → IsAbove u (entries w) → Placed t w → Stands t p w
+pub stands : (t : Shown) (w : Treap Row) (p : Name) (u : Unfolded) → t p ≡ Some u → IsAbove u (unfolded_rows w) → Placed t w → Stands t p w
 stands t Empty p u live above h = tt
 stands t (Over y l m) p u live above h = (
   top_parent t p u y l m live above,
-  stands t l (name.Entry (id_of y.id)) (entries (Over y l m)) h.0 (above_less y.id y.name y.content (entries l) (entries m)) h.1,
-  stands t m (name.Entry (id_of y.id)) (entries (Over y l m)) h.0 (above_more y.id y.name y.content (entries l) (entries m)) h.2,
+  stands t l (name.Entry (id_of y.id)) (unfolded_rows (Over y l m)) h.0 (above_less y.id y.name y.content (unfolded_rows l) (unfolded_rows m)) h.1,
+  stands t m (name.Entry (id_of y.id)) (unfolded_rows (Over y l m)) h.0 (above_more y.id y.name y.content (unfolded_rows l) (unfolded_rows m)) h.2,
 )
 
 abbrev OverHere : Shown → Name → Treap Row → Type 0
@@ -168,7 +168,7 @@ over-here : (t : Shown) (p q : Name) (v : Treap Row) → IsParent t p q → Over
 over-here t p q Empty h o = tt
 over-here t p q (Over y l m) h o = over_through t p q (name.Entry (id_of y.id)) (next p q h) o
 
-pub over_at : (t : Shown) (p : Name) (w v : Treap Row) → Stands t p w → IsWithin v w → OverHere t p v
+pub over_at : (t : Shown) (p : Name) (w v : Treap Row) → Stands t p w → IsSubtreap v w → OverHere t p v
 over_at t p Empty v s h = absurd h
 over_at t p (Over y l m) v s (inl e) = subst (OverHere t p) (sym e) (next p (name.Entry (id_of y.id)) s.0)
 over_at t p (Over y l m) v s (inr (inl h)) = over-here t p (name.Entry (id_of y.id)) v s.0 (over_at t (name.Entry (id_of y.id)) l v s.1 h)
@@ -185,7 +185,7 @@ abbrev HungHere : (Name → Option Node) → (Name → Option Name) → Shown �
 HungHere s over t Empty = Unit {0}
 HungHere s over t (Over y l m) = (node : Node) → s (name.Entry (id_of y.id)) ≡ Some node → Hung s over t (name.Entry (id_of y.id))
 
-pub hung_at : (s : Name → Option Node) (over : Name → Option Name) (t : Shown) (p : Name) (w v : Treap Row) → Hang s over p w → Stands t p w → IsWithin v w → HungHere s over t v
+pub hung_at : (s : Name → Option Node) (over : Name → Option Name) (t : Shown) (p : Name) (w v : Treap Row) → Hang s over p w → Stands t p w → IsSubtreap v w → HungHere s over t v
 hung_at s over t p Empty v h st k = absurd k
 hung_at s over t p (Over y l m) v h st (inl e) = subst (HungHere s over t) (sym e) (λ node at. (let x = h.0 node at in record { from = p; over_is = x.0; sees = x.1; parent = st.0 }))
 hung_at s over t p (Over y l m) v h st (inr (inl k)) = hung_at s over t (name.Entry (id_of y.id)) l v h.1 st.1 k

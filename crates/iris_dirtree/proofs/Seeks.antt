@@ -18,11 +18,11 @@ use Rattle.iris_cache.specs.Resident.{Resident}
 use Rattle.iris_cache.specs.Drafted.{Drafted, known, seen}
 use Rattle.iris_dirtree.specs.declared.removing.Crumb.{Crumb}
 use Rattle.iris_dirtree.specs.Needs.{IsWanted}
-use Rattle.iris_dirtree.specs.Nodes.{toward, IsLinkLack}
-use Rattle.iris_dirtree.specs.Rows.{Row, entries}
+use Rattle.iris_dirtree.specs.Nodes.{link_toward, IsLinkLack}
+use Rattle.iris_dirtree.specs.Rows.{Row, unfolded_rows}
 use Rattle.iris_dirtree.specs.Steps.{Fork, forked, under, entry_name, above, WasHash, IsCrumb}
 use Rattle.iris_dirtree.specs.Descents.{Stands, IsAmong, met_near, taken, Seeking, FoundRow, Joining, Ended, IsStop, Seeks, Joins}
-use Rattle.iris_dirtree.specs.Ways.{Any, before, is_named}
+use Rattle.iris_dirtree.specs.Ways.{Any, is_row_before, has_name}
 use Rattle.iris_dirtree.proofs.Downs.{any_left, any_right}
 use Rattle.iris_dirtree.proofs.Likes.{like_row, leads_over, leads_empty}
 use Rattle.iris_dirtree.proofs.Rowed.{row_any}
@@ -37,7 +37,7 @@ module _ (old new : Shown) (c : Resident) (t : Treap Row) (d : Drafted) where
       → Stands old new c t d (entry_name y) e.left l × Stands old new c t d (entry_name y) e.right m
   stands_sides q link y l m e s at =
       let seat = s.seated.0 (node.Entry e) at in
-      let like = like_row y (entries l) (entries m) e seat.like in
+      let like = like_row y (unfolded_rows l) (unfolded_rows m) e seat.like in
       let w = s.below.0 e at in (
         record { leads = record { led_is = like.left_is; hash = λ n h k. seat.hashes n h (inl k) }; wanted = w.0; below = s.below.1; seated = s.seated.2 },
         record { leads = record { led_is = like.right_is; hash = λ n h k. seat.hashes n h (inr (inl k)) }; wanted = w.1; below = s.below.2; seated = s.seated.3 },
@@ -69,7 +69,7 @@ module _ (old new : Shown) (c : Resident) (t : Treap Row) (d : Drafted) where
         stands = s2;
         at = at2;
         id_is = top.id_is;
-        name_is = (like_row top.row (entries top.less) (entries top.more) e (s2.seated.0 (node.Entry e) at2).like).name_is;
+        name_is = (like_row top.row (unfolded_rows top.less) (unfolded_rows top.more) e (s2.seated.0 (node.Entry e) at2).like).name_is;
         reached = s.leads.hash (entry_name top.row) k.hash (ap name.Entry (sym top.id_is), refl);
       }
 
@@ -84,39 +84,39 @@ module _ (old new : Shown) (c : Resident) (t : Treap Row) (d : Drafted) where
 
   -- ---- to the row of a name
 
-  taken_past : (up : Row → Row → Bool) (n : List ℕ) (y : Row) (l m : Treap Row) (b : Bool) → is_named n y ≡ false → before n y ≡ b → taken up n (Over y l m) ≡ forked (stepped y l m b) (taken up n (cond b m l))
+  taken_past : (up : Row → Row → Bool) (n : List ℕ) (y : Row) (l m : Treap Row) (b : Bool) → has_name n y ≡ false → is_row_before n y ≡ b → taken up n (Over y l m) ≡ forked (stepped y l m b) (taken up n (cond b m l))
   taken_past up n y l m true e f =
-      cond-false (is_named n y) (merge up l m) (cond (before n y) (Over y l (taken up n m)) (Over y (taken up n l) m)) e ∙ cond-true (before n y) (Over y l (taken up n m)) (Over y (taken up n l) m) f
+      cond-false (has_name n y) (merge up l m) (cond (is_row_before n y) (Over y l (taken up n m)) (Over y (taken up n l) m)) e ∙ cond-true (is_row_before n y) (Over y l (taken up n m)) (Over y (taken up n l) m) f
   taken_past up n y l m false e f =
-      cond-false (is_named n y) (merge up l m) (cond (before n y) (Over y l (taken up n m)) (Over y (taken up n l) m)) e ∙ cond-false (before n y) (Over y l (taken up n m)) (Over y (taken up n l) m) f
+      cond-false (has_name n y) (merge up l m) (cond (is_row_before n y) (Over y l (taken up n m)) (Over y (taken up n l) m)) e ∙ cond-false (is_row_before n y) (Over y l (taken up n m)) (Over y (taken up n l) m) f
 
-  met_past : (n : List ℕ) (y r : Row) (l m : Treap Row) (b : Bool) → is_named n y ≡ false → before n y ≡ b → IsAmong r (met_near n (cond b m l)) → IsAmong r (met_near n (Over y l m))
+  met_past : (n : List ℕ) (y r : Row) (l m : Treap Row) (b : Bool) → has_name n y ≡ false → is_row_before n y ≡ b → IsAmong r (met_near n (cond b m l)) → IsAmong r (met_near n (Over y l m))
   met_past n y r l m b e f h =
       let P : List Row → Type 0 = IsAmong r in
-      inr (subst P (sym (cond-false (is_named n y) (way (λ _. true) l ++ way (λ _. false) m) (cond (before n y) (met_near n m) (met_near n l)) e)) (by b f h))
+      inr (subst P (sym (cond-false (has_name n y) (way (λ _. true) l ++ way (λ _. false) m) (cond (is_row_before n y) (met_near n m) (met_near n l)) e)) (by b f h))
     where
-      by : (b : Bool) → before n y ≡ b → IsAmong r (met_near n (cond b m l)) → IsAmong r (cond (before n y) (met_near n m) (met_near n l))
-      by true f h = let P : List Row → Type 0 = IsAmong r in subst P (sym (cond-true (before n y) (met_near n m) (met_near n l) f)) h
-      by false f h = let P : List Row → Type 0 = IsAmong r in subst P (sym (cond-false (before n y) (met_near n m) (met_near n l) f)) h
+      by : (b : Bool) → is_row_before n y ≡ b → IsAmong r (met_near n (cond b m l)) → IsAmong r (cond (is_row_before n y) (met_near n m) (met_near n l))
+      by true f h = let P : List Row → Type 0 = IsAmong r in subst P (sym (cond-true (is_row_before n y) (met_near n m) (met_near n l) f)) h
+      by false f h = let P : List Row → Type 0 = IsAmong r in subst P (sym (cond-false (is_row_before n y) (met_near n m) (met_near n l) f)) h
 
   inside_side : (y r : Row) (l m : Treap Row) (b : Bool) → IsAmong r (rows (cond b m l)) → IsAmong r (rows (Over y l m))
   inside_side y r l m true h = any_right (λ z. z ≡ r) (rows l) (y ∷ rows m) (inr h)
   inside_side y r l m false h = any_left (λ z. z ≡ r) (rows l) (y ∷ rows m) h
 
-  side_stands : (q : Name) (link : Option Link) (y : Row) (l m : Treap Row) (e : EntryFields) (b : Bool) → Stands old new c t d q link (Over y l m) → seen d c (entry_name y) ≡ Some (node.Entry e) → Stands old new c t d (entry_name y) (toward b e) (cond b m l)
+  side_stands : (q : Name) (link : Option Link) (y : Row) (l m : Treap Row) (e : EntryFields) (b : Bool) → Stands old new c t d q link (Over y l m) → seen d c (entry_name y) ≡ Some (node.Entry e) → Stands old new c t d (entry_name y) (link_toward b e) (cond b m l)
   side_stands q link y l m e true s at = (stands_sides q link y l m e s at).1
   side_stands q link y l m e false s at = (stands_sides q link y l m e s at).0
 
   pub seek_more : (p : Name) (up : Row → Row → Bool) (n : List ℕ) (es : List Crumb) (k : Link) (e : EntryFields) (b : Bool) → seen d c (name.Entry k.id) ≡ Some (node.Entry e)
       → (not (less_name e.name n) && not (less_name n e.name)) ≡ false → less_name e.name n ≡ b
-      → Seeking old new c t d p up n es (Some k) → Seeking old new c t d p up n (es ++ record { node = e; right = b; hash = k.hash } ∷ []) (toward b e)
+      → Seeking old new c t d p up n es (Some k) → Seeking old new c t d p up n (es ++ record { node = e; right = b; hash = k.hash } ∷ []) (link_toward b e)
   seek_more p up n es k e b at out less s =
       let top = seen_top (above p s.front) k s.rest e s.stands at in
       let x = stepped top.y top.l top.m b in
       let rest = cond b top.m top.l in
-      let named : is_named n top.y ≡ false = ap (λ (a : List ℕ). not (less_name a n) && not (less_name n a)) (sym top.name_is) ∙ out in
-      let goes : before n top.y ≡ b = ap (λ (a : List ℕ). less_name a n) (sym top.name_is) ∙ less in
-      let S : Name → Type 0 = λ q. Stands old new c t d q (toward b e) rest in
+      let named : has_name n top.y ≡ false = ap (λ (a : List ℕ). not (less_name a n) && not (less_name n a)) (sym top.name_is) ∙ out in
+      let goes : is_row_before n top.y ≡ b = ap (λ (a : List ℕ). less_name a n) (sym top.name_is) ∙ less in
+      let S : Name → Type 0 = λ q. Stands old new c t d q (link_toward b e) rest in
       let M : (r : Row) → Treap Row → Type 0 = λ r w. IsAmong r (met_near n w) in
       let I : (r : Row) → Treap Row → Type 0 = λ r w. IsAmong r (rows w) in
       record {
@@ -137,20 +137,20 @@ module _ (old new : Shown) (c : Resident) (t : Treap Row) (d : Drafted) where
       let y = top.y in
       let l = top.l in
       let m = top.m in
-      let named : is_named n y ≡ true = ap (λ (a : List ℕ). not (less_name a n) && not (less_name n a)) (sym top.name_is) ∙ is_it in
+      let named : has_name n y ≡ true = ap (λ (a : List ℕ). not (less_name a n) && not (less_name n a)) (sym top.name_is) ∙ is_it in
       let seat = top.stands.seated.0 (node.Entry e) top.at in
       let sides = stands_sides (above p s.front) (Some k) y l m e top.stands top.at in
       let M : (r : Row) → Treap Row → Type 0 = λ r w. IsAmong r (met_near n w) in
       let Q : (r : Row) → List Row → Type 0 = λ r w. IsAmong r (y ∷ w) in
       let I : Treap Row → Type 0 = λ w. IsAmong y (rows w) in
-      let is : met_near n (Over y l m) ≡ y ∷ (way (λ _. true) l ++ way (λ _. false) m) = ap (λ w. y ∷ w) (cond-true (is_named n y) (way (λ _. true) l ++ way (λ _. false) m) (cond (before n y) (met_near n m) (met_near n l)) named) in
+      let is : met_near n (Over y l m) ≡ y ∷ (way (λ _. true) l ++ way (λ _. false) m) = ap (λ w. y ∷ w) (cond-true (has_name n y) (way (λ _. true) l ++ way (λ _. false) m) (cond (is_row_before n y) (met_near n m) (met_near n l)) named) in
       let N : (r : Row) → List Row → Type 0 = λ r w. IsAmong r w in
       record {
         front = s.front;
         row = y;
         less = l;
         more = m;
-        is = s.is ∙ ap (λ w. under s.front (taken up n w)) top.is ∙ ap (under s.front) (cond-true (is_named n y) (merge up l m) (cond (before n y) (Over y l (taken up n m)) (Over y (taken up n l) m)) named);
+        is = s.is ∙ ap (λ w. under s.front (taken up n w)) top.is ∙ ap (under s.front) (cond-true (has_name n y) (merge up l m) (cond (is_row_before n y) (Over y l (taken up n m)) (Over y (taken up n l) m)) named);
         crumbs = s.crumbs;
         named = named;
         sees = top.at;

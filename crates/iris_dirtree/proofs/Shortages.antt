@@ -18,8 +18,8 @@ use Rattle.iris_cache.specs.Resident.{Resident}
 use Rattle.iris_cache.specs.Drafted.{Drafted, known, seen}
 use Rattle.iris_cache.specs.Pictures.{IsSettled}
 use Rattle.iris_cache.proofs.Lacking.{unknown}
-use Rattle.iris_dirtree.specs.Rows.{Row, entries, row_entry, up}
-use Rattle.iris_dirtree.specs.Ways.{Any, along, along_name, before, is_named}
+use Rattle.iris_dirtree.specs.Rows.{Row, unfolded_rows, row_entry, up}
+use Rattle.iris_dirtree.specs.Ways.{Any, along, along_name, is_row_before, has_name}
 use Rattle.iris_dirtree.specs.Needs.{ListedInHand, IsShort, IsWanted, IsMet}
 use Rattle.iris_dirtree.specs.Nodes.{dir_top}
 use Rattle.iris_dirtree.specs.Grafts.{Fork, entry_name, forked, around, over, Fits, Leads, Passes, Reached}
@@ -30,13 +30,13 @@ use Rattle.iris_dirtree.proofs.Grafting.{fits_of, top_seen, leads_of}
 use Rattle.iris_dirtree.proofs.Walks.{lacking_below}
 use Rattle.iris_dirtree.proofs.There.{is_there}
 
-along_by : (P : Row → Type 0) (n : List ℕ) (row : Row) (other t : Treap Row) (b : Bool) → b ≡ before n row → is_named n row ≡ false → Any P (along (before n) (is_named n) t) → Any P (along (before n) (is_named n) (cond b (Over row other t) (Over row t other)))
+along_by : (P : Row → Type 0) (n : List ℕ) (row : Row) (other t : Treap Row) (b : Bool) → b ≡ is_row_before n row → has_name n row ≡ false → Any P (along (is_row_before n) (has_name n) t) → Any P (along (is_row_before n) (has_name n) (cond b (Over row other t) (Over row t other)))
 along_by P n row other t true e f h =
-    inr (subst (Any P) (sym (cond-false (is_named n row) [] (cond (before n row) (along (before n) (is_named n) t) (along (before n) (is_named n) other)) f ∙ cond-true (before n row) (along (before n) (is_named n) t) (along (before n) (is_named n) other) (sym e))) h)
+    inr (subst (Any P) (sym (cond-false (has_name n row) [] (cond (is_row_before n row) (along (is_row_before n) (has_name n) t) (along (is_row_before n) (has_name n) other)) f ∙ cond-true (is_row_before n row) (along (is_row_before n) (has_name n) t) (along (is_row_before n) (has_name n) other) (sym e))) h)
 along_by P n row other t false e f h =
-    inr (subst (Any P) (sym (cond-false (is_named n row) [] (cond (before n row) (along (before n) (is_named n) other) (along (before n) (is_named n) t)) f ∙ cond-false (before n row) (along (before n) (is_named n) other) (along (before n) (is_named n) t) (sym e))) h)
+    inr (subst (Any P) (sym (cond-false (has_name n row) [] (cond (is_row_before n row) (along (is_row_before n) (has_name n) other) (along (is_row_before n) (has_name n) t)) f ∙ cond-false (is_row_before n row) (along (is_row_before n) (has_name n) other) (along (is_row_before n) (has_name n) t) (sym e))) h)
 
-along_around : (P : Row → Type 0) (n : List ℕ) (forks : List Fork) (t : Treap Row) → Each (Passes n) forks → Any P (along (before n) (is_named n) t) → Any P (along (before n) (is_named n) (around forks t))
+along_around : (P : Row → Type 0) (n : List ℕ) (forks : List Fork) (t : Treap Row) → Each (Passes n) forks → Any P (along (is_row_before n) (has_name n) t) → Any P (along (is_row_before n) (has_name n) (around forks t))
 along_around P n [] t passed h = h
 along_around P n (s ∷ ss) t passed h = along_around P n ss (forked s t) passed.1 (along_by P n s.row s.other t s.right passed.0.0 passed.0.1 h)
 
@@ -49,10 +49,10 @@ placed_around t [] w h = h
 placed_around t (s ∷ ss) w h = placed_by t s.row s.other w s.right (placed_around t ss (forked s w) h)
 
 parent_by_fork : (t : Shown) (row : Row) (other : Treap Row) (y : Row) (l m : Treap Row) (b : Bool) → Placed t (cond b (Over row other (Over y l m)) (Over row (Over y l m) other)) → IsParent t (entry_name row) (entry_name y)
-parent_by_fork t row other y l m true h = top_parent t (entry_name row) (entries (Over row other (Over y l m))) y l m h.0 (above_more row.id row.name row.content (entries other) (entries (Over y l m)))
-parent_by_fork t row other y l m false h = top_parent t (entry_name row) (entries (Over row (Over y l m) other)) y l m h.0 (above_less row.id row.name row.content (entries (Over y l m)) (entries other))
+parent_by_fork t row other y l m true h = top_parent t (entry_name row) (unfolded_rows (Over row other (Over y l m))) y l m h.0 (above_more row.id row.name row.content (unfolded_rows other) (unfolded_rows (Over y l m)))
+parent_by_fork t row other y l m false h = top_parent t (entry_name row) (unfolded_rows (Over row (Over y l m) other)) y l m h.0 (above_less row.id row.name row.content (unfolded_rows (Over y l m)) (unfolded_rows other))
 
-parent_around : (t : Shown) (p : Name) (u : Unfolded) (forks : List Fork) (y : Row) (l m : Treap Row) → t p ≡ Some u → IsAbove u (entries (around forks (Over y l m))) → Placed t (around forks (Over y l m)) → IsParent t (over p forks) (entry_name y)
+parent_around : (t : Shown) (p : Name) (u : Unfolded) (forks : List Fork) (y : Row) (l m : Treap Row) → t p ≡ Some u → IsAbove u (unfolded_rows (around forks (Over y l m))) → Placed t (around forks (Over y l m)) → IsParent t (over p forks) (entry_name y)
 parent_around t p u [] y l m live above placed = top_parent t p u y l m live above
 parent_around t p u (s ∷ ss) y l m live above placed = parent_by_fork t s.row s.other y l m s.right (placed_around t ss (forked s (Over y l m)) placed)
 
@@ -70,9 +70,9 @@ module _ (key : List ℕ) (n : List ℕ) (dir : FileId) (x : Row) (d : Drafted) 
       let ts = top_seen (seen d c root) top top_is in
       let y = lack.row in
       let placed = subst (Placed new) (sym lack.is) (placed_rows new key dir rows listed.is listed.rows_are) in
-      let above = subst (λ v. IsAbove r.entry (entries v)) (sym lack.is) r.above in
+      let above = subst (λ v. IsAbove r.entry (unfolded_rows v)) (sym lack.is) r.above in
       let here = placed_around new lack.forks (Over y lack.less lack.more) placed in
-      let now : new q ≡ Some (row_entry y (entries lack.less) (entries lack.more)) = ap new lack.lacks ∙ here.0 in
+      let now : new q ≡ Some (row_entry y (unfolded_rows lack.less) (unfolded_rows lack.more)) = ap new lack.lacks ∙ here.0 in
       let up_name = over root lack.forks in
       let parent = parent_around new root r.entry lack.forks y lack.less lack.more r.live above placed in
       let parent_q = subst (IsParent new up_name) (sym lack.lacks) parent in
@@ -80,12 +80,12 @@ module _ (key : List ℕ) (n : List ℕ) (dir : FileId) (x : Row) (d : Drafted) 
       let P : Row → Type 0 = λ v. q ≡ name.Entry (id_of v.id) in
       let named = subst (λ m. m) (ap (λ m. q ≡ m) refl) lack.lacks in
       let is_name : (m : Name) → m ≡ entry_name y → known d c m ≡ None → new m ≡ old m = λ m e k. see.away m (subst NodeName (sym e) tt) k in
-      let lived = is_there (old q) (row_entry y (entries lack.less) (entries lack.more)) (sym (is_name q lack.lacks missing) ∙ now) in
+      let lived = is_there (old q) (row_entry y (unfolded_rows lack.less) (unfolded_rows lack.more)) (sym (is_name q lack.lacks missing) ∙ now) in
       let absent = (unknown d c q missing).1 in
       let S : Option Held → Type 0 = λ o. IsSettled o in (
-        inr (subst (λ v. Any P (along (before n) (is_named n) v)) lack.is (along_around P n lack.forks (Over y lack.less lack.more) lack.passed (inl lack.lacks))),
+        inr (subst (λ v. Any P (along (is_row_before n) (has_name n) v)) lack.is (along_around P n lack.forks (Over y lack.less lack.more) lack.passed (inl lack.lacks))),
         record {
-          live = is_there (new q) (row_entry y (entries lack.less) (entries lack.more)) now;
+          live = is_there (new q) (row_entry y (unfolded_rows lack.less) (unfolded_rows lack.more)) now;
           lived = lived;
           expected = inr (expected_by (old q) h lived (lack.hash.0 (subst S (sym absent) tt)));
           parent = inr (λ p before. parent_resident old new d c see q up_name p parent_q there before);

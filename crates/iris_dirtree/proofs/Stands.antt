@@ -22,11 +22,11 @@ use Rattle.iris_cache.specs.Resident.{Resident}
 use Rattle.iris_cache.specs.Drafted.{Drafted, seen, known, there_by}
 use Rattle.iris_cache.specs.Pictures.{IsLike, Holds, LinkHolds, BodyHolds}
 use Rattle.iris_cache.proofs.Lacking.{unknown}
-use Rattle.iris_dirtree.specs.Rows.{Row, row_entry, entries, up, HasRows, IsRootName}
+use Rattle.iris_dirtree.specs.Rows.{Row, row_entry, unfolded_rows, up, HasRows, IsRootName}
 use Rattle.iris_dirtree.specs.Ways.{Any}
 use Rattle.iris_dirtree.specs.Needs.{IsWanted, IsDirectory, IsDirNode, IsLack, Lacks, Listed}
-use Rattle.iris_dirtree.specs.Found.{entry_in, inside, body_inside}
-use Rattle.iris_dirtree.specs.Reached.{size, Past, Way}
+use Rattle.iris_dirtree.specs.Found.{as_entry, inside, body_inside}
+use Rattle.iris_dirtree.specs.Reached.{size, MetInOrder, Way}
 use Rattle.iris_dirtree.proofs.Sees.{Sees, sees_drafts, wanted, root_wanted}
 use Rattle.iris_dirtree.proofs.Likes.{roof, LikeRow, like_row, like_part, leads_over, lead_id, above_less, above_more}
 use Rattle.iris_dirtree.proofs.Pasts.{past_more}
@@ -47,7 +47,7 @@ led_named (Stored v bytes) l h = cc
 pub link_holds : (o : Option Link) (l : Link) → o ≡ Some l → LinkHolds o (name.Entry l.id) l.hash
 link_holds o l e = subst (λ o. LinkHolds o (name.Entry l.id) l.hash) (sym e) (refl, refl)
 
-pub is_entry : (o : Option Node) (e : EntryFields) → Some e ≡ entry_in o → o ≡ Some (node.Entry e)
+pub is_entry : (o : Option Node) (e : EntryFields) → Some e ≡ as_entry o → o ≡ Some (node.Entry e)
 is_entry None e h = cc
 is_entry (Some (node.Part p)) e h = cc
 is_entry (Some (node.Entry x)) e h = let q : x ≡ e = cc in ap (λ x. Some (node.Entry x)) q
@@ -61,7 +61,7 @@ body_holds id (Dir top) l e = link_holds top l e
 body_holds id (FileBody size counter versions) l e = cc
 
 -- an entry that is live and known is seen
-pub no_entry_by : (t : Option Unfolded) (u : Unfolded) (o : Option (Option Node)) → t ≡ Some u → IsSome o → None ≡ entry_in (there_by o) → (o ≡ Some None → t ≡ None) → ((p : PartFields) → there_by o ≡ Some (node.Part p) → ⊥) → ⊥
+pub no_entry_by : (t : Option Unfolded) (u : Unfolded) (o : Option (Option Node)) → t ≡ Some u → IsSome o → None ≡ as_entry (there_by o) → (o ≡ Some None → t ≡ None) → ((p : PartFields) → there_by o ≡ Some (node.Part p) → ⊥) → ⊥
 no_entry_by t u None live some none gone part = let e : false ≡ true = some in cc
 no_entry_by t u (Some None) live some none gone part = let e = gone refl in cc
 no_entry_by t u (Some (Some (node.Part p))) live some none gone part = part p refl
@@ -74,14 +74,14 @@ pub record Here (old new : Shown) (d : Drafted) (c : Resident) (w : Treap Row) (
   pub more : Treap Row
   pub is : w ≡ Over row less more
   pub id_is : l.id ≡ id_of row.id
-  pub like : LikeRow row (entries less) (entries more) e
-  pub left : Way old new d c (entries less) e.left (suc k)
-  pub right : Way old new d c (entries more) e.right (suc k)
+  pub like : LikeRow row (unfolded_rows less) (unfolded_rows more) e
+  pub left : Way old new d c (unfolded_rows less) e.left (suc k)
+  pub right : Way old new d c (unfolded_rows more) e.right (suc k)
 
 module _ (old new : Shown) (d : Drafted) (c : Resident) (see : Sees old new d c) where
   -- the way on from a node that is seen
   pub way_down : (n : Name) (u w : Unfolded) (k : Node) (at : Option Link) (i : ℕ) → new n ≡ Some u → seen d c n ≡ Some k → IsAbove u w → led_by at ≡ led w
-      → ((l : Link) → at ≡ Some l → Holds k (name.Entry l.id) l.hash) → Past new (seen d c) i (size u) → Way old new d c w at (suc i)
+      → ((l : Link) → at ≡ Some l → Holds k (name.Entry l.id) l.hash) → MetInOrder new (seen d c) i (size u) → Way old new d c w at (suc i)
   way_down n u w k at i live sees above leads holds past =
       record {
         leads = leads;
@@ -96,15 +96,15 @@ module _ (old new : Shown) (d : Drafted) (c : Resident) (see : Sees old new d c)
       }
 
   -- at a row whose entry is seen
-  pub here : (w : Treap Row) (l : Link) (e : EntryFields) (k : ℕ) → Way old new d c (entries w) (Some l) k → Some e ≡ entry_in (seen d c (name.Entry l.id)) → Here old new d c w l e k
+  pub here : (w : Treap Row) (l : Link) (e : EntryFields) (k : ℕ) → Way old new d c (unfolded_rows w) (Some l) k → Some e ≡ as_entry (seen d c (name.Entry l.id)) → Here old new d c w l e k
   here w l e k way at =
       let t = leads_over w l way.leads in
       let n = name.Entry l.id in
-      let u = row_entry t.row (entries t.less) (entries t.more) in
-      let live : new n ≡ Some u = (way.stands l refl).live ∙ ap (λ w. Some (entries w)) t.is in
+      let u = row_entry t.row (unfolded_rows t.less) (unfolded_rows t.more) in
+      let live : new n ≡ Some u = (way.stands l refl).live ∙ ap (λ w. Some (unfolded_rows w)) t.is in
       let sees : seen d c n ≡ Some (node.Entry e) = is_entry (seen d c n) e at in
-      let like = like_row t.row (entries t.less) (entries t.more) e (subst (λ o. IsLike o (node.Entry e)) live (see.nodes n (node.Entry e) sees)) in
-      let past = subst (λ w. Past new (seen d c) k (size (entries w))) t.is way.past in
+      let like = like_row t.row (unfolded_rows t.less) (unfolded_rows t.more) e (subst (λ o. IsLike o (node.Entry e)) live (see.nodes n (node.Entry e) sees)) in
+      let past = subst (λ w. MetInOrder new (seen d c) k (size (unfolded_rows w))) t.is way.past in
       record {
         row = t.row;
         less = t.less;
@@ -112,21 +112,21 @@ module _ (old new : Shown) (d : Drafted) (c : Resident) (see : Sees old new d c)
         is = t.is;
         id_is = t.id_is;
         like = like;
-        left = way_down n u (entries t.less) (node.Entry e) e.left k live sees (above_less t.row.id t.row.name t.row.content (entries t.less) (entries t.more)) like.left_is (λ m q. inl (link_holds e.left m q)) past;
-        right = way_down n u (entries t.more) (node.Entry e) e.right k live sees (above_more t.row.id t.row.name t.row.content (entries t.less) (entries t.more)) like.right_is (λ m q. inr (inl (link_holds e.right m q))) past;
+        left = way_down n u (unfolded_rows t.less) (node.Entry e) e.left k live sees (above_less t.row.id t.row.name t.row.content (unfolded_rows t.less) (unfolded_rows t.more)) like.left_is (λ m q. inl (link_holds e.left m q)) past;
+        right = way_down n u (unfolded_rows t.more) (node.Entry e) e.right k live sees (above_more t.row.id t.row.name t.row.content (unfolded_rows t.less) (unfolded_rows t.more)) like.right_is (λ m q. inr (inl (link_holds e.right m q))) past;
       }
 
   -- where a way goes on, the entry is seen if it is known
-  pub no_entry : (w : Treap Row) (l : Link) (k : ℕ) → Way old new d c (entries w) (Some l) k → IsSome (known d c (name.Entry l.id)) → None ≡ entry_in (seen d c (name.Entry l.id)) → ⊥
+  pub no_entry : (w : Treap Row) (l : Link) (k : ℕ) → Way old new d c (unfolded_rows w) (Some l) k → IsSome (known d c (name.Entry l.id)) → None ≡ as_entry (seen d c (name.Entry l.id)) → ⊥
   no_entry w l k way some none =
       let t = leads_over w l way.leads in
       let n = name.Entry l.id in
-      let u = row_entry t.row (entries t.less) (entries t.more) in
-      let live : new n ≡ Some u = (way.stands l refl).live ∙ ap (λ w. Some (entries w)) t.is in
-      no_entry_by (new n) u (known d c n) live some none (see.gone n tt) (λ p at. like_part t.row (entries t.less) (entries t.more) p (subst (λ o. IsLike o (node.Part p)) live (see.nodes n (node.Part p) at)))
+      let u = row_entry t.row (unfolded_rows t.less) (unfolded_rows t.more) in
+      let live : new n ≡ Some u = (way.stands l refl).live ∙ ap (λ w. Some (unfolded_rows w)) t.is in
+      no_entry_by (new n) u (known d c n) live some none (see.gone n tt) (λ p at. like_part t.row (unfolded_rows t.less) (unfolded_rows t.more) p (subst (λ o. IsLike o (node.Part p)) live (see.nodes n (node.Part p) at)))
 
   top_by : (dir : FileId) (u w : Unfolded) (label : List ℕ) (less more : Unfolded) (top : Option Link) (o : Option (Option Node)) → known d c (name.Entry dir) ≡ o → new (name.Entry dir) ≡ Some u → u ≡ Folder dir.0 label less more w → IsAbove u w
-      → IsSome o → top ≡ inside (entry_in (there_by o)) → Way old new d c w top 1
+      → IsSome o → top ≡ inside (as_entry (there_by o)) → Way old new d c w top 1
   top_by dir u w label less more top None at live is above some e = absurd (let e : false ≡ true = some in cc)
   top_by dir u w label less more top (Some None) at live is above some e = let g = see.gone (name.Entry dir) tt at in cc
   top_by dir u w label less more top (Some (Some (node.Part p))) at live is above some e =
@@ -137,11 +137,11 @@ module _ (old new : Shown) (d : Drafted) (c : Resident) (see : Sees old new d c)
       let t = inside_by dir.0 label less more w x x.body like in
       way_down (name.Entry dir) u w (node.Entry x) top 0 live sees above (ap led_by e ∙ t) (λ l q. inr (inr (body_holds x.id x.body l (sym e ∙ q)))) tt
 
-  pub top_way : (key : List ℕ) (dir : FileId) (rows : List Row) (top : Option Link) → HasRows new key dir rows → IsSome (known d c (name.Entry dir)) → top ≡ inside (entry_in (seen d c (name.Entry dir)))
-      → Way old new d c (entries (treap (up key) rows)) top 1
+  pub top_way : (key : List ℕ) (dir : FileId) (rows : List Row) (top : Option Link) → HasRows new key dir rows → IsSome (known d c (name.Entry dir)) → top ≡ inside (as_entry (seen d c (name.Entry dir)))
+      → Way old new d c (unfolded_rows (treap (up key) rows)) top 1
   top_way key dir rows top has some e =
       let r = roof new key dir rows has in
-      top_by dir r.entry (entries (treap (up key) rows)) r.label r.less r.more top (known d c (name.Entry dir)) refl r.live r.is r.above some e
+      top_by dir r.entry (unfolded_rows (treap (up key) rows)) r.label r.less r.more top (known d c (name.Entry dir)) refl r.live r.is r.above some e
 
 -- ---- what a plan lacks
 

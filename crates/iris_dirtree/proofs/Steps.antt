@@ -12,7 +12,7 @@ use Rattle.iris_shape.proofs.Treaps.{every_map}
 use Rattle.iris_cache.specs.Pictures.{IsLike}
 use Rattle.iris_dirtree.specs.declared.removing.Crumb.{Crumb}
 use Rattle.iris_dirtree.specs.Nodes.{turned}
-use Rattle.iris_dirtree.specs.Rows.{Row, entries}
+use Rattle.iris_dirtree.specs.Rows.{Row, unfolded_rows}
 use Rattle.iris_dirtree.specs.Steps.{Fork, forked, under, entry_name, above, crumb_above, AreNamed, Outside, Once}
 use Rattle.iris_dirtree.proofs.Fitting.{like_turned, less_over}
 
@@ -54,24 +54,24 @@ turned_id true k e = refl
 turned_id false k e = refl
 
 -- a node with a turned link is like its row over what that leads to
-pub turned_like : (x : Fork) (v w : Treap Row) (e : EntryFields) (k : Option Link) → IsLike (Some (entries (forked x v))) (node.Entry e) → led_by k ≡ led (entries w)
-    → IsLike (Some (entries (forked x w))) (node.Entry (turned x.right k e))
+pub turned_like : (x : Fork) (v w : Treap Row) (e : EntryFields) (k : Option Link) → IsLike (Some (unfolded_rows (forked x v))) (node.Entry e) → led_by k ≡ led (unfolded_rows w)
+    → IsLike (Some (unfolded_rows (forked x w))) (node.Entry (turned x.right k e))
 turned_like x v w e k h i = by x.right h
   where
-    by : (r : Bool) → IsLike (Some (entries (cond r (Over x.row x.other v) (Over x.row v x.other)))) (node.Entry e) → IsLike (Some (entries (cond r (Over x.row x.other w) (Over x.row w x.other)))) (node.Entry (turned r k e))
-    by true g = like_turned x.row (entries x.other) (entries v) (entries w) e true k g i
-    by false g = like_turned x.row (entries v) (entries x.other) (entries w) e false k g i
+    by : (r : Bool) → IsLike (Some (unfolded_rows (cond r (Over x.row x.other v) (Over x.row v x.other)))) (node.Entry e) → IsLike (Some (unfolded_rows (cond r (Over x.row x.other w) (Over x.row w x.other)))) (node.Entry (turned r k e))
+    by true g = like_turned x.row (unfolded_rows x.other) (unfolded_rows v) (unfolded_rows w) e true k g i
+    by false g = like_turned x.row (unfolded_rows v) (unfolded_rows x.other) (unfolded_rows w) e false k g i
 
 -- ---- counts below a way
 
-over_blocks : (x : Fork) (w : Treap Row) → blocks (entries w) ≤ blocks (entries (forked x w))
+over_blocks : (x : Fork) (w : Treap Row) → blocks (unfolded_rows w) ≤ blocks (unfolded_rows (forked x w))
 over_blocks x w = by x.right
   where
-    by : (r : Bool) → blocks (entries w) ≤ blocks (entries (cond r (Over x.row x.other w) (Over x.row w x.other)))
-    by true = (less_over x.row.id x.row.name x.row.content (entries x.other) (entries w)).1
-    by false = (less_over x.row.id x.row.name x.row.content (entries w) (entries x.other)).0
+    by : (r : Bool) → blocks (unfolded_rows w) ≤ blocks (unfolded_rows (cond r (Over x.row x.other w) (Over x.row w x.other)))
+    by true = (less_over x.row.id x.row.name x.row.content (unfolded_rows x.other) (unfolded_rows w)).1
+    by false = (less_over x.row.id x.row.name x.row.content (unfolded_rows w) (unfolded_rows x.other)).0
 
-pub under_blocks : (xs : List Fork) (w : Treap Row) → blocks (entries w) ≤ blocks (entries (under xs w))
+pub under_blocks : (xs : List Fork) (w : Treap Row) → blocks (unfolded_rows w) ≤ blocks (unfolded_rows (under xs w))
 under_blocks [] w = omega arith
 under_blocks (x ∷ xs) w = let a = under_blocks xs w in let b = over_blocks x (under xs w) in omega arith
 

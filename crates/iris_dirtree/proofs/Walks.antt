@@ -19,8 +19,8 @@ use Rattle.iris_cache.specs.Resident.{Resident}
 use Rattle.iris_cache.specs.Drafted.{Drafted, known, seen}
 use Rattle.iris_cache.specs.Pictures.{LinkHolds}
 use Rattle.iris_dirtree.specs.declared.inserting.Crumb.{Crumb}
-use Rattle.iris_dirtree.specs.Rows.{Row, entries}
-use Rattle.iris_dirtree.specs.Nodes.{toward, IsLinkLack}
+use Rattle.iris_dirtree.specs.Rows.{Row, unfolded_rows}
+use Rattle.iris_dirtree.specs.Nodes.{link_toward, IsLinkLack}
 use Rattle.iris_dirtree.specs.Grafts.{Fork, entry_name, forked, around, over, low_over, high_over, split_over, WasHash, Fits, Leads, AreCrumbs, Passes, Walked, TopBelow}
 use Rattle.iris_dirtree.specs.Splits.{IsRead, Lacking, IsWayShort}
 use Rattle.iris_dirtree.proofs.Likes.{like_row, leads_over, leads_empty}
@@ -53,8 +53,8 @@ fork_is : (row : Row) (l m : Treap Row) (b : Bool) → forked (record { row = ro
 fork_is row l m true = refl
 fork_is row l m false = refl
 
-side_leads : (old : Shown) (c : Resident) (l m : Treap Row) (e : EntryFields) (b : Bool) → led_by e.left ≡ led (entries l) → led_by e.right ≡ led (entries m) → ((h : Hash32) (q : Name) → LinkHolds e.left q h → WasHash old c q h) → ((h : Hash32) (q : Name) → LinkHolds e.right q h → WasHash old c q h)
-    → Leads old c (toward b e) (cond b m l)
+side_leads : (old : Shown) (c : Resident) (l m : Treap Row) (e : EntryFields) (b : Bool) → led_by e.left ≡ led (unfolded_rows l) → led_by e.right ≡ led (unfolded_rows m) → ((h : Hash32) (q : Name) → LinkHolds e.left q h → WasHash old c q h) → ((h : Hash32) (q : Name) → LinkHolds e.right q h → WasHash old c q h)
+    → Leads old c (link_toward b e) (cond b m l)
 side_leads old c l m e true hl hm wl wm = record { led_is = hm; hash = λ q h x. wm h q x }
 side_leads old c l m e false hl hm wl wm = record { led_is = hl; hash = λ q h x. wl h q x }
 
@@ -65,7 +65,7 @@ pub record Longer (n : List ℕ) (old : Shown) (c : Resident) (d : Drafted) (to 
   pub right : fork.right ≡ k.right
   pub name_is : entry_name fork.row ≡ name.Entry k.node.id
   pub id_is : fork.row.id ≡ k.node.id.0
-  pub walked : Walked n old c d to t (fork ∷ forks) rest (toward k.right k.node) (ks ++ k ∷ [])
+  pub walked : Walked n old c d to t (fork ∷ forks) rest (link_toward k.right k.node) (ks ++ k ∷ [])
 
 pub walked_more : (n : List ℕ) (old : Shown) (c : Resident) (known : Name → Type 0) (d : Drafted) (p : Name) (to : List Fork → Fork → Name) (t : Treap Row) (forks : List Fork) (rest : Treap Row) (l : Link) (ks : List Crumb) (k : Crumb)
     → Fits old c known d p t → Walked n old c d to t forks rest (Some l) ks → IsRead d c n l k → ((s : Fork) → s.right ≡ k.right → name.Entry k.parent ≡ to forks s) → Longer n old c d to t forks ks k
@@ -78,7 +78,7 @@ walked_more n old c known d p to t forks rest l ks k fits w read hangs =
     let sees : seen d c (entry_name row) ≡ Some (node.Entry k.node) = ap (λ q. seen d c q) (sym at) ∙ read.sees in
     let here : Fits old c known d (over p forks) (Over row top.less top.more) = subst (Fits old c known d (over p forks)) top.is (fits_around old c known d p forks rest (subst (Fits old c known d p) (sym w.is) fits)) in
     let fit = here.0 (node.Entry k.node) sees in
-    let like = like_row row (entries top.less) (entries top.more) k.node fit.like in
+    let like = like_row row (unfolded_rows top.less) (unfolded_rows top.more) k.node fit.like in
     let was : WasHash old c (entry_name row) k.hash = subst (WasHash old c (entry_name row)) (sym read.hash) (subst (λ q. WasHash old c q l.hash) at (w.leads.hash (name.Entry l.id) l.hash (refl, refl))) in
     let named : entry_name row ≡ name.Entry k.node.id = sym at ∙ ap name.Entry (sym read.id) in
     record {
@@ -139,12 +139,12 @@ lacking_below n old c d to t forks rest at ks q h w k =
 
 -- ---- the ends of ways
 
-pub top_below : (prio : ℕ → ℕ) (i : FileId) (rest : Treap Row) (l : Link) → led_by (Some l) ≡ led (entries rest) → beats prio i.0 l.id.0 ≡ true → TopBelow prio i rest
+pub top_below : (prio : ℕ → ℕ) (i : FileId) (rest : Treap Row) (l : Link) → led_by (Some l) ≡ led (unfolded_rows rest) → beats prio i.0 l.id.0 ≡ true → TopBelow prio i rest
 top_below prio i rest l led h =
     let top = leads_over rest l led in
     subst (TopBelow prio i) (sym top.is) (sym (ap (λ j. beats prio i.0 j.0) top.id_is) ∙ h)
 
-pub empty_rest : (prio : ℕ → ℕ) (i : FileId) (rest : Treap Row) → led_by None ≡ led (entries rest) → TopBelow prio i rest
+pub empty_rest : (prio : ℕ → ℕ) (i : FileId) (rest : Treap Row) → led_by None ≡ led (unfolded_rows rest) → TopBelow prio i rest
 empty_rest prio i rest led = subst (TopBelow prio i) (sym (leads_empty rest led)) tt
 
 -- the last entries on both sides

@@ -4,7 +4,7 @@ use Rattle.std.proofs.lemmas.Bool.{cond-true, cond-false, both_ways}
 use Rattle.iris_name.specs.declared.name.Name.{Name}
 use Rattle.iris_name.specs.declared.name.Name.TheVariants as name
 use Rattle.iris_shape.specs.Order.{less_name, Rising, Distinct}
-use Rattle.iris_shape.specs.Treap.{Treap, Empty, Over, treap, rows, without, Each, Parts}
+use Rattle.iris_shape.specs.Treap.{Treap, Empty, Over, treap, rows, rows_without, Each, Parts}
 use Rattle.iris_shape.proofs.Orders.{less_not, parts, falls, ranks, all_apart}
 use Rattle.iris_shape.proofs.Treaps.{every_of, each_left, each_right, treap_without, each_map}
 use Rattle.iris_name.specs.Hmac.{priority}
@@ -12,7 +12,7 @@ use Rattle.iris_dirtree.specs.Descents.{IsAmong, taken}
 use Rattle.iris_dirtree.specs.Planted.{IsRowName}
 use Rattle.iris_dirtree.specs.Rows.{Row, row_id, row_name, up}
 use Rattle.iris_dirtree.specs.Steps.{entry_name, Outside, Once}
-use Rattle.iris_dirtree.specs.Ways.{Any, before, is_named}
+use Rattle.iris_dirtree.specs.Ways.{Any, is_row_before, has_name}
 use Rattle.iris_dirtree.proofs.Downs.{less_same, any_split}
 use Rattle.iris_dirtree.proofs.Moved.{each_in, not_before}
 
@@ -29,32 +29,32 @@ any_each P Q (y ∷ ys) h (inr k) f = any_each P Q ys h.1 k f
 
 -- ---- without some
 
-each_without : (P : Row → Type 0) (e : Row → Bool) (xs : List Row) → Each P xs → Each P (without e xs)
+each_without : (P : Row → Type 0) (e : Row → Bool) (xs : List Row) → Each P xs → Each P (rows_without e xs)
 each_without P e [] h = tt
-each_without P e (y ∷ ys) h = elim (e y) as (λ b. Each P (cond b (without e ys) (y ∷ without e ys))) [ true ↦ each_without P e ys h.1 | false ↦ (h.0, each_without P e ys h.1) ]
+each_without P e (y ∷ ys) h = elim (e y) as (λ b. Each P (cond b (rows_without e ys) (y ∷ rows_without e ys))) [ true ↦ each_without P e ys h.1 | false ↦ (h.0, each_without P e ys h.1) ]
 
-pub distinct_without : (e : Row → Bool) (xs : List Row) → Distinct row_id xs → Distinct row_id (without e xs)
+pub distinct_without : (e : Row → Bool) (xs : List Row) → Distinct row_id xs → Distinct row_id (rows_without e xs)
 distinct_without e [] h = tt
 distinct_without e (y ∷ ys) h =
-    elim (e y) as (λ b. Distinct row_id (cond b (without e ys) (y ∷ without e ys))) [ true ↦ distinct_without e ys h.1 | false ↦ (each_without (λ z. y.id ≢ z.id) e ys h.0, distinct_without e ys h.1) ]
+    elim (e y) as (λ b. Distinct row_id (cond b (rows_without e ys) (y ∷ rows_without e ys))) [ true ↦ distinct_without e ys h.1 | false ↦ (each_without (λ z. y.id ≢ z.id) e ys h.0, distinct_without e ys h.1) ]
 
-pub any_without : (P : Row → Type 0) (e : Row → Bool) (xs : List Row) → Any P (without e xs) → Any P xs
+pub any_without : (P : Row → Type 0) (e : Row → Bool) (xs : List Row) → Any P (rows_without e xs) → Any P xs
 any_without P e [] h = h
-any_without P e (y ∷ ys) h = (elim (e y) as (λ b. Any P (cond b (without e ys) (y ∷ without e ys)) → Any P (y ∷ ys)) [ true ↦ (λ k. inr (any_without P e ys k)) | false ↦ (λ k. first (λ g. any_without P e ys g) k) ]) h
+any_without P e (y ∷ ys) h = (elim (e y) as (λ b. Any P (cond b (rows_without e ys) (y ∷ rows_without e ys)) → Any P (y ∷ ys)) [ true ↦ (λ k. inr (any_without P e ys k)) | false ↦ (λ k. first (λ g. any_without P e ys g) k) ]) h
   where
-    first : (Any P (without e ys) → Any P ys) → Any P (y ∷ without e ys) → Any P (y ∷ ys)
+    first : (Any P (rows_without e ys) → Any P ys) → Any P (y ∷ rows_without e ys) → Any P (y ∷ ys)
     first f (inl k) = inl k
     first f (inr k) = inr (f k)
 
 -- what is so of a row, and of none without those of the test, is so of one of these
-pub gone_one : (P : Row → Type 0) (e : Row → Bool) (xs : List Row) → Any P xs → (Any P (without e xs) → ⊥) → Any (λ r. (e r ≡ true) × P r) xs
+pub gone_one : (P : Row → Type 0) (e : Row → Bool) (xs : List Row) → Any P xs → (Any P (rows_without e xs) → ⊥) → Any (λ r. (e r ≡ true) × P r) xs
 gone_one P e [] h g = h
 gone_one P e (y ∷ ys) (inl a) g = by (e y) refl
   where
     by : (b : Bool) → e y ≡ b → Any (λ r. (e r ≡ true) × P r) (y ∷ ys)
     by true q = inl (q, a)
-    by false q = let A : List Row → Type 0 = Any P in absurd (g (subst A (sym (cond-false (e y) (without e ys) (y ∷ without e ys) q)) (inl a)))
-gone_one P e (y ∷ ys) (inr a) g = inr (gone_one P e ys a (λ k. g ((elim (e y) as (λ b. Any P (cond b (without e ys) (y ∷ without e ys))) [ true ↦ k | false ↦ inr k ]))))
+    by false q = let A : List Row → Type 0 = Any P in absurd (g (subst A (sym (cond-false (e y) (rows_without e ys) (y ∷ rows_without e ys) q)) (inl a)))
+gone_one P e (y ∷ ys) (inr a) g = inr (gone_one P e ys a (λ k. g ((elim (e y) as (λ b. Any P (cond b (rows_without e ys) (y ∷ rows_without e ys))) [ true ↦ k | false ↦ inr k ]))))
 
 -- the row of a name is the only one
 pub only : (P : Row → Type 0) (p e : Row → Bool) (xs : List Row) (x : Row) → Parts p e xs → Any (λ r. (e r ≡ true) × P r) xs → IsAmong x xs → e x ≡ true → P x
@@ -73,31 +73,31 @@ only P p e (y ∷ ys) x h (inr a) (inl i) t = by (p y) refl
 only P p e (y ∷ ys) x h (inr a) (inr k) t = only P p e ys x h.2 a k t
 
 -- no row has the id of one that went
-pub apart_without : (e : Row → Bool) (xs : List Row) (x : Row) → Distinct row_id xs → IsAmong x xs → e x ≡ true → Any (λ r. r.id ≡ x.id) (without e xs) → ⊥
+pub apart_without : (e : Row → Bool) (xs : List Row) (x : Row) → Distinct row_id xs → IsAmong x xs → e x ≡ true → Any (λ r. r.id ≡ x.id) (rows_without e xs) → ⊥
 apart_without e [] x h k t a = k
 apart_without e (y ∷ ys) x h (inl i) t a =
     let A : List Row → Type 0 = Any (λ (r : Row). r.id ≡ x.id) in
-    let b = any_without (λ r. r.id ≡ x.id) e ys (subst A (cond-true (e y) (without e ys) (y ∷ without e ys) (ap e i ∙ t)) a) in
+    let b = any_without (λ r. r.id ≡ x.id) e ys (subst A (cond-true (e y) (rows_without e ys) (y ∷ rows_without e ys) (ap e i ∙ t)) a) in
     any_each (λ r. r.id ≡ x.id) (λ z. y.id ≢ z.id) ys h.0 b (λ z f g. f (ap row_id i ∙ sym g))
-apart_without e (y ∷ ys) x h (inr k) t a = (elim (e y) as (λ b. Any (λ (r : Row). r.id ≡ x.id) (cond b (without e ys) (y ∷ without e ys)) → ⊥) [ true ↦ (λ g. apart_without e ys x h.1 k t g) | false ↦ (λ g. first (λ j. apart_without e ys x h.1 k t j) g) ]) a
+apart_without e (y ∷ ys) x h (inr k) t a = (elim (e y) as (λ b. Any (λ (r : Row). r.id ≡ x.id) (cond b (rows_without e ys) (y ∷ rows_without e ys)) → ⊥) [ true ↦ (λ g. apart_without e ys x h.1 k t g) | false ↦ (λ g. first (λ j. apart_without e ys x h.1 k t j) g) ]) a
   where
-    first : (Any (λ (r : Row). r.id ≡ x.id) (without e ys) → ⊥) → Any (λ (r : Row). r.id ≡ x.id) (y ∷ without e ys) → ⊥
+    first : (Any (λ (r : Row). r.id ≡ x.id) (rows_without e ys) → ⊥) → Any (λ (r : Row). r.id ≡ x.id) (y ∷ rows_without e ys) → ⊥
     first f (inl g) = each_in (λ z. y.id ≢ z.id) ys x k h.0 g
     first f (inr g) = f g
 
 -- ---- names
 
-pub named_is : (n : List ℕ) (r : Row) → is_named n r ≡ true → r.name ≡ n
+pub named_is : (n : List ℕ) (r : Row) → has_name n r ≡ true → r.name ≡ n
 named_is n r h = let k = not_before (less_name r.name n) (less_name n r.name) h in less_same r.name n k.0 k.1
 
-pub is_it : (n : List ℕ) (r : Row) → r.name ≡ n → is_named n r ≡ true
+pub is_it : (n : List ℕ) (r : Row) → r.name ≡ n → has_name n r ≡ true
 is_it n r e = ap (λ (a : List ℕ). not (less_name a n) && not (less_name n a)) e ∙ ap (λ b. not b && not b) (less_not n)
 
-pub named_parts : (n : List ℕ) (xs : List Row) → Rising row_name xs → Parts (before n) (is_named n) xs
-named_parts n xs h = parts row_name n (is_named n) xs (named_is n) h
+pub named_parts : (n : List ℕ) (xs : List Row) → Rising row_name xs → Parts (is_row_before n) (has_name n) xs
+named_parts n xs h = parts row_name n (has_name n) xs (named_is n) h
 
-pub taken_without : (key n : List ℕ) (xs : List Row) → Rising row_name xs → Distinct row_id xs → taken (up key) n (treap (up key) xs) ≡ treap (up key) (without (is_named n) xs)
-taken_without key n xs rising distinct = sym (treap_without (up key) (ranks (priority key) row_id) (before n) (is_named n) xs (all_apart (priority key) row_id xs distinct) (falls row_name n xs rising) (named_parts n xs rising))
+pub taken_without : (key n : List ℕ) (xs : List Row) → Rising row_name xs → Distinct row_id xs → taken (up key) n (treap (up key) xs) ≡ treap (up key) (rows_without (has_name n) xs)
+taken_without key n xs rising distinct = sym (treap_without (up key) (ranks (priority key) row_id) (is_row_before n) (has_name n) xs (all_apart (priority key) row_id xs distinct) (falls row_name n xs rising) (named_parts n xs rising))
 
 row_number : Name → ℕ
 row_number (name.Entry i) = i.0

@@ -8,7 +8,7 @@ use Rattle.iris_node.specs.Trees.{Shown, IsTree}
 use Rattle.iris_node.specs.Unfolded.{Unfolded, id_of}
 use Rattle.iris_cache.specs.declared.held.Short.{Short}
 use Rattle.iris_cache.specs.declared.held.Short.TheVariants.{Need, NoMemory}
-use Rattle.iris_cache.specs.Resident.{Resident, held}
+use Rattle.iris_cache.specs.Resident.{Resident, held_node}
 use Rattle.iris_cache.specs.Drafted.{Drafted, drafted}
 use Rattle.iris_cache.specs.Pictures.{Drafts}
 use Rattle.iris_dirtree.specs.Needs.{IsWanted}
@@ -23,14 +23,14 @@ pub record RootIs (root : FileId) (d : Drafted) (c : Resident) (old new : Shown)
   pub live : new (name.Entry root) ≡ Some u
 
 -- the root, or an entry met on going down from it to the block
-abbrev pub IsBelow : FileId → ℕ → Unfolded → Name → Type 0
-IsBelow root at u n = (n ≡ name.Entry root) ⊎ Any (λ i. n ≡ name.Entry (id_of i)) (down_to at u)
+abbrev pub IsOnWayToBlock : FileId → ℕ → Unfolded → Name → Type 0
+IsOnWayToBlock root at u n = (n ≡ name.Entry root) ⊎ Any (λ i. n ≡ name.Entry (id_of i)) (down_to at u)
 
 -- the search for a block below a root lacks a name that neither draft nor cache has
 pub record LacksBelow (root : FileId) (d : Drafted) (c : Resident) (at : ℕ) (n : Name) (x : Expect) : Type 0 where
   pub unset : drafted d n ≡ None
-  pub absent : held c n ≡ None
-  pub needed : (old new : Shown) (u : Unfolded) → RootIs root d c old new u → IsBelow root at u n × IsWanted old new c n x
+  pub absent : held_node c n ≡ None
+  pub needed : (old new : Shown) (u : Unfolded) → RootIs root d c old new u → IsOnWayToBlock root at u n × IsWanted old new c n x
 
 -- why the search stops
 abbrev pub IsBelowLack : FileId → Drafted → Resident → ℕ → Short → Type 0

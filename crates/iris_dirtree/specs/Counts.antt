@@ -42,10 +42,10 @@ counted_lead n k None = None
 counted_lead n k (Some l) = Some (record { id = l.id; blocks = if same_name (name.Entry (id_of l.id)) n then k else l.blocks })
 
 -- what a node says by itself, with k blocks in each lead to n
-abbrev pub counted : Name → ℕ → Local → Local
-counted n k (FolderAt id label less more inside) = FolderAt id label (counted_lead n k less) (counted_lead n k more) (counted_lead n k inside)
-counted n k (LeafAt id label less more size counter even) = LeafAt id label (counted_lead n k less) (counted_lead n k more) size counter even
-counted n k (SplitAt file level index low high) = SplitAt file level index low high
+abbrev pub with_blocks : Name → ℕ → Local → Local
+with_blocks n k (FolderAt id label less more inside) = FolderAt id label (counted_lead n k less) (counted_lead n k more) (counted_lead n k inside)
+with_blocks n k (LeafAt id label less more size counter even) = LeafAt id label (counted_lead n k less) (counted_lead n k more) size counter even
+with_blocks n k (SplitAt file level index low high) = SplitAt file level index low high
 
 -- a link, with k blocks where it leads to n
 abbrev pub counted_link : Name → ℕ → Option Link → Option Link

@@ -16,9 +16,9 @@ use Rattle.iris_cache.specs.Drafted.{Drafted, known, seen}
 use Rattle.iris_cache.specs.Pictures.{Holds, IsLike}
 use Rattle.iris_dirtree.specs.declared.removing.Crumb.{Crumb}
 use Rattle.iris_dirtree.specs.Needs.{IsWanted}
-use Rattle.iris_dirtree.specs.Rows.{Row, entries, row_entry}
+use Rattle.iris_dirtree.specs.Rows.{Row, unfolded_rows, row_entry}
 use Rattle.iris_dirtree.specs.Steps.{Fork, under, entry_name, above, WasHash, Seated, Leads, AreCrumbs}
-use Rattle.iris_dirtree.specs.Ways.{Any, before, is_named}
+use Rattle.iris_dirtree.specs.Ways.{Any, is_row_before, has_name}
 
 -- where the entry to which a link leads is missing, it is wanted
 abbrev pub IsWantedLink : Shown → Shown → Resident → Drafted → Option Link → Type 0
@@ -45,11 +45,11 @@ IsAmong r rows = Any (λ z. z ≡ r) rows
 
 -- the rows met on going down to a name, and from its row to its neighbours
 abbrev pub met_near : List ℕ → Treap Row → List Row
-met_near n t = near (before n) (is_named n) t
+met_near n t = near (is_row_before n) (has_name n) t
 
 -- a treap without the row of a name
 abbrev pub taken : (Row → Row → Bool) → List ℕ → Treap Row → Treap Row
-taken up n t = remove up (before n) (is_named n) t
+taken up n t = remove up (is_row_before n) (has_name n) t
 
 -- On the way down to the row of a name, crumbs were kept of the rows met, and a link leads on.
 pub record Seeking (old new : Shown) (c : Resident) (t : Treap Row) (d : Drafted) (p : Name) (up : Row → Row → Bool) (n : List ℕ) (kept : List Crumb) (link : Option Link) : Type 0 where
@@ -69,9 +69,9 @@ pub record FoundRow (old new : Shown) (c : Resident) (t : Treap Row) (d : Drafte
   pub more : Treap Row
   pub is : taken up n t ≡ under front (merge up less more)
   pub crumbs : AreCrumbs old c t d front kept
-  pub named : is_named n row ≡ true
+  pub named : has_name n row ≡ true
   pub sees : seen d c (entry_name row) ≡ Some (node.Entry e)
-  pub like : IsLike (Some (row_entry row (entries less) (entries more))) (node.Entry e)
+  pub like : IsLike (Some (row_entry row (unfolded_rows less) (unfolded_rows more))) (node.Entry e)
   pub hashes : (m : Name) (h : Hash32) → Holds (node.Entry e) m h → WasHash old c m h
   pub left : Stands old new c t d (entry_name row) e.left less
   pub right : Stands old new c t d (entry_name row) e.right more

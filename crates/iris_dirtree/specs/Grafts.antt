@@ -15,9 +15,9 @@ use Rattle.iris_cache.specs.Resident.{Resident}
 use Rattle.iris_cache.specs.Drafted.{Drafted, seen}
 use Rattle.iris_cache.specs.Pictures.{Holds, IsLike, parent_after}
 use Rattle.iris_dirtree.specs.declared.inserting.Crumb.{Crumb}
-use Rattle.iris_dirtree.specs.Rows.{Row, entries, row_entry}
+use Rattle.iris_dirtree.specs.Rows.{Row, unfolded_rows, row_entry}
 pub use Rattle.iris_dirtree.specs.Steps.{Fork, entry_name, forked, WasHash, Leads}
-use Rattle.iris_dirtree.specs.Ways.{before, is_named}
+use Rattle.iris_dirtree.specs.Ways.{is_row_before, has_name}
 
 -- the whole treap around the end of a way, given from its end up
 abbrev pub around : List Fork → Treap Row → Treap Row
@@ -63,7 +63,7 @@ pub record Fit (old : Shown) (c : Resident) (known : Name → Type 0) (d : Draft
 abbrev pub Fits : Shown → Resident → (Name → Type 0) → Drafted → Name → Treap Row → Type 0
 Fits old c known d p Empty = Unit {0}
 Fits old c known d p (Over y l m) =
-    ((x : Node) → seen d c (entry_name y) ≡ Some x → Fit old c known d p (entry_name y) (row_entry y (entries l) (entries m)) x) × Fits old c known d (entry_name y) l × Fits old c known d (entry_name y) m
+    ((x : Node) → seen d c (entry_name y) ≡ Some x → Fit old c known d p (entry_name y) (row_entry y (unfolded_rows l) (unfolded_rows m)) x) × Fits old c known d (entry_name y) l × Fits old c known d (entry_name y) m
 
 -- a crumb is the seen node of a fork's row, and is to hang from q
 pub record IsCrumb (old : Shown) (c : Resident) (d : Drafted) (q : Name) (s : Fork) (k : Crumb) : Type 0 where
@@ -79,7 +79,7 @@ AreCrumbs old c d to (s ∷ ss) ks = (js : List Crumb) × (k : Crumb) × (ks ≡
 
 -- the way goes on towards a name that the row doesn't have
 abbrev pub Passes : List ℕ → Fork → Type 0
-Passes n s = (s.right ≡ before n s.row) × (is_named n s.row ≡ false)
+Passes n s = (s.right ≡ is_row_before n s.row) × (has_name n s.row ≡ false)
 
 -- the way from the top of t towards a name has come to `rest`
 pub record Walked (n : List ℕ) (old : Shown) (c : Resident) (d : Drafted) (to : List Fork → Fork → Name) (t : Treap Row) (forks : List Fork) (rest : Treap Row) (at : Option Link) (ks : List Crumb) : Type 0 where

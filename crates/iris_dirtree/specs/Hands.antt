@@ -9,7 +9,7 @@ use Rattle.iris_node.specs.Local.{local, entry_local}
 use Rattle.iris_node.specs.Trees.{Shown, node_name, IsNodeName, IsParent}
 use Rattle.iris_node.specs.Unfolded.{Absent, id_of}
 use Rattle.iris_cache.specs.declared.draft.Change.{Change}
-use Rattle.iris_cache.specs.Resident.{Resident, held}
+use Rattle.iris_cache.specs.Resident.{Resident, held_node}
 use Rattle.iris_cache.specs.Drafted.{Drafted, drafted, known, seen}
 use Rattle.iris_cache.specs.Pictures.{Pictures, IsLike, WasHash, Holds, BodyHolds, parent_after}
 use Rattle.iris_dirtree.specs.Rows.{Row, row_entry}
@@ -36,7 +36,7 @@ pub record Holding (old new : Shown) (hand : Option Row) (d : Drafted) (c : Resi
   pub hangs : (n p : Name) (node : Node) → seen d c n ≡ Some node → IsBelowHand hand p n → parent_after d c n ≡ Some p
   pub gone : (n : Name) → IsNodeName n → known d c n ≡ Some None → new n ≡ None
   pub away : (n : Name) → IsNodeName n → known d c n ≡ None → new n ≡ old n
-  pub resident : (n : Name) (change : Change) → drafted d n ≡ Some change → IsSome (held c n) ⊎ (old n ≡ None)
+  pub resident : (n : Name) (change : Change) → drafted d n ≡ Some change → IsSome (held_node c n) ⊎ (old n ≡ None)
   pub out : IsOut hand new
 
 -- the node of a row, but for its links beside it and for hashes

@@ -12,7 +12,7 @@ use Rattle.iris_node.specs.Trees.{Shown, IsTree, IsParent}
 use Rattle.iris_node.specs.Unfolded.{id_of}
 use Rattle.iris_cache.specs.declared.held.Short.{Short}
 use Rattle.iris_cache.specs.declared.held.Short.TheVariants.{Need, NoMemory}
-use Rattle.iris_cache.specs.Resident.{Resident, held}
+use Rattle.iris_cache.specs.Resident.{Resident, held_node}
 use Rattle.iris_cache.specs.Drafted.{Drafted, drafted, seen}
 use Rattle.iris_cache.specs.Needs.{IsExpected}
 use Rattle.iris_cache.specs.Laws.{AreFormed}
@@ -55,7 +55,7 @@ pub record IsWanted (old new : Shown) (c : Resident) (n : Name) (x : Expect) : T
   pub live : IsSome (new n)
   pub lived : IsSome (old n)
   pub expected : IsRootName n ⊎ IsExpected x (old n)
-  pub parent : IsRootName n ⊎ ((p : Name) → IsParent old p n → IsSome (held c p))
+  pub parent : IsRootName n ⊎ ((p : Name) → IsParent old p n → IsSome (held_node c p))
 
 -- the name of the directory's entry, or of one of the rows that are met
 abbrev pub IsMet : FileId → List Row → Name → Type 0
@@ -64,7 +64,7 @@ IsMet dir met n = (n ≡ name.Entry dir) ⊎ Any (λ (r : Row). n ≡ name.Entry
 -- A plan lacks a name that neither draft nor cache has. `pictured` says of which tables it speaks, and `met` which rows the plan meets.
 pub record Lacks (pictured : Shown → Shown → List Row → Type 0) (met : List Row → List Row) (d : Drafted) (c : Resident) (dir : FileId) (n : Name) (x : Expect) : Type 0 where
   pub unset : drafted d n ≡ None
-  pub absent : held c n ≡ None
+  pub absent : held_node c n ≡ None
   pub needed : (old new : Shown) (rows : List Row) → pictured old new rows → IsMet dir (met rows) n × IsWanted old new c n x
 
 -- why a plan that takes no memory stops

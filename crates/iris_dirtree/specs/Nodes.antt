@@ -19,9 +19,9 @@ use Rattle.iris_cache.specs.Pictures.{Holds}
 use Rattle.iris_cache.specs.Drafted.{Drafted, drafted, known, set_to}
 
 -- the link to the entries of greater names, or to those of lesser ones
-abbrev pub toward : Bool → EntryFields → Option Link
-toward true e = e.right
-toward false e = e.left
+abbrev pub link_toward : Bool → EntryFields → Option Link
+link_toward true e = e.right
+link_toward false e = e.left
 
 -- an entry with another link on that side
 abbrev pub turned : Bool → Option Link → EntryFields → EntryFields

@@ -16,7 +16,7 @@ use Rattle.iris_cache.specs.Resident.{Resident}
 use Rattle.iris_cache.specs.Drafted.{Drafted, known, seen}
 use Rattle.iris_cache.specs.Pictures.{Drafts}
 use Rattle.iris_dirtree.specs.Needs.{IsWanted}
-use Rattle.iris_dirtree.specs.Rows.{Row, row_entry, entries}
+use Rattle.iris_dirtree.specs.Rows.{Row, row_entry, unfolded_rows}
 use Rattle.iris_dirtree.specs.Ways.{Any, up_to}
 use Rattle.iris_dirtree.specs.Reached.{Way}
 
@@ -44,7 +44,7 @@ to_list (z ∷ zs) = to_list zs ++ z.row ∷ rows z.more
 -- a row that was passed is a row of the treap, in its place in the table, and is seen
 pub record IsPassed (new : Shown) (d : Drafted) (c : Resident) (all : Treap Row) (z : Passed) : Type 0 where
   pub part : Sub all (Over z.row z.less z.more)
-  pub live : new (name.Entry (id_of z.row.id)) ≡ Some (row_entry z.row (entries z.less) (entries z.more))
+  pub live : new (name.Entry (id_of z.row.id)) ≡ Some (row_entry z.row (unfolded_rows z.less) (unfolded_rows z.more))
   pub is_seen : seen d c (name.Entry (id_of z.row.id)) ≡ Some (node.Entry z.entry)
 
 -- A cache with a draft pictures a table.
@@ -69,7 +69,7 @@ pub record Piling (old new : Shown) (d : Drafted) (c : Resident) (after : List �
   pub passed : Each (IsPassed new d c all) pile
   pub left_are : left ≡ rows (high (up_to after) under) ++ to_list pile
   pub part : Sub all under
-  pub leads : Way old new d c (entries under) at k
+  pub leads : Way old new d c (unfolded_rows under) at k
   pub meets : (n : Name) → Any (λ (r : Row). n ≡ name.Entry (id_of r.id)) (way (up_to after) under) → Any (λ (r : Row). n ≡ name.Entry (id_of r.id)) (way (up_to after) begin)
 
 -- a walk down lacks a name that it meets

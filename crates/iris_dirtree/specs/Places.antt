@@ -8,7 +8,7 @@ use Rattle.iris_node.specs.Unfolded.{Unfolded, Absent, Folder, Leaf, Even, Split
 use Rattle.iris_node.specs.Walk.{BlockAt, block_count, walk}
 use Rattle.iris_cache.specs.declared.held.Short.{Short}
 use Rattle.iris_cache.specs.declared.held.Short.TheVariants.{Need, NoMemory}
-use Rattle.iris_cache.specs.Resident.{Resident, held}
+use Rattle.iris_cache.specs.Resident.{Resident, held_node}
 use Rattle.iris_cache.specs.Drafted.{Drafted, drafted}
 use Rattle.iris_cache.specs.Pictures.{Drafts}
 use Rattle.iris_dirtree.specs.Needs.{IsWanted}
@@ -49,7 +49,7 @@ IsOnWay at root trash n = (n ≡ name.Entry (id_of 0)) ⊎ ((n ≡ name.Entry (i
 -- the search for a block of the walk lacks a name that neither draft nor cache has
 pub record LacksPlace (d : Drafted) (c : Resident) (at : ℕ) (n : Name) (x : Expect) : Type 0 where
   pub unset : drafted d n ≡ None
-  pub absent : held c n ≡ None
+  pub absent : held_node c n ≡ None
   pub needed : (old new : Shown) (root trash : Unfolded) → Rooted d c old new root trash → IsOnWay at root trash n × IsWanted old new c n x
 
 -- why the search stops

@@ -15,10 +15,10 @@ use Rattle.iris_node.specs.Trees.{Shown, IsParent}
 use Rattle.iris_node.specs.Unfolded.{id_of}
 use Rattle.iris_shape.specs.Treap.{Treap, Empty, Over, rows}
 use Rattle.iris_cache.specs.declared.draft.Change.{Change}
-use Rattle.iris_cache.specs.Resident.{Resident, held}
+use Rattle.iris_cache.specs.Resident.{Resident, held_node}
 use Rattle.iris_cache.specs.Drafted.{Drafted, drafted, seen, set_to, taken_away}
 use Rattle.iris_cache.specs.Pictures.{IsLike, WasHash, Holds, parent_after}
-use Rattle.iris_dirtree.specs.Rows.{Row, entries, row_entry}
+use Rattle.iris_dirtree.specs.Rows.{Row, unfolded_rows, row_entry}
 use Rattle.iris_dirtree.specs.Ways.{Any}
 
 -- a name is that of one of these rows
@@ -28,7 +28,7 @@ IsRowName rows n = Any (λ (r : Row). n ≡ name.Entry (id_of r.id)) rows
 -- what is seen of each row's name, if anything is, says what the row's entry in this treap says
 abbrev pub Likes : (Name → Option Node) → Treap Row → Type 0
 Likes s Empty = Unit {0}
-Likes s (Over y l m) = ((node : Node) → s (name.Entry (id_of y.id)) ≡ Some node → IsLike (Some (row_entry y (entries l) (entries m))) node) × Likes s l × Likes s m
+Likes s (Over y l m) = ((node : Node) → s (name.Entry (id_of y.id)) ≡ Some node → IsLike (Some (row_entry y (unfolded_rows l) (unfolded_rows m))) node) × Likes s l × Likes s m
 
 -- each row that is seen hangs from the row above it in this treap, the topmost from p, and that is seen too
 abbrev pub Hang : (Name → Option Node) → (Name → Option Name) → Name → Treap Row → Type 0
@@ -44,19 +44,19 @@ abbrev pub with_top : Option Link → EntryFields → EntryFields
 with_top top e = record { id = e.id; name = e.name; left = e.left; right = e.right; body = topped top e.body }
 
 -- a treap is one of those in another
-abbrev pub IsWithin : Treap Row → Treap Row → Type 0
-IsWithin v Empty = ⊥
-IsWithin v (Over y l m) = (v ≡ Over y l m) ⊎ (IsWithin v l ⊎ IsWithin v m)
+abbrev pub IsSubtreap : Treap Row → Treap Row → Type 0
+IsSubtreap v Empty = ⊥
+IsSubtreap v (Over y l m) = (v ≡ Over y l m) ⊎ (IsSubtreap v l ⊎ IsSubtreap v m)
 
 -- a row of the second treap that isn't seen stands over what it stood over in the first
 abbrev pub Stays : (Name → Option Node) → Treap Row → Treap Row → Type 0
 Stays s t Empty = Unit {0}
-Stays s t (Over y l m) = (s (name.Entry (id_of y.id)) ≡ None → IsWithin (Over y l m) t) × Stays s t l × Stays s t m
+Stays s t (Over y l m) = (s (name.Entry (id_of y.id)) ≡ None → IsSubtreap (Over y l m) t) × Stays s t l × Stays s t m
 
 -- Of the treap t of a directory's rows a draft made the treap u, and its entry leads to it.
 pub record Planted (old : Shown) (dir : FileId) (t u : Treap Row) (d e : Drafted) (c : Resident) : Type 0 where
   pub top : Option Link
-  pub leads : led_by top ≡ led (entries u)
+  pub leads : led_by top ≡ led (unfolded_rows u)
   pub entry : (x : EntryFields) → seen d c (name.Entry dir) ≡ Some (node.Entry x) → drafted e (name.Entry dir) ≡ Some (set_to (parent_after d c (name.Entry dir)) (node.Entry (with_top top x)))
   pub likes : Likes (seen e c) u
   pub hang : Hang (seen e c) (parent_after e c) (name.Entry dir) u
@@ -72,7 +72,7 @@ pub record Planted (old : Shown) (dir : FileId) (t u : Treap Row) (d e : Drafted
   -- a row that comes is seen, and one that goes is taken away
   pub came : (n : Name) → IsRowName (rows u) n → (IsRowName (rows t) n → ⊥) → IsSome (seen e c n)
   pub went : (n : Name) → IsRowName (rows t) n → (IsRowName (rows u) n → ⊥) → drafted e n ≡ Some taken_away
-  pub resident : (n : Name) (change : Change) → drafted e n ≡ Some change → IsSome (held c n) ⊎ (old n ≡ None)
+  pub resident : (n : Name) (change : Change) → drafted e n ≡ Some change → IsSome (held_node c n) ⊎ (old n ≡ None)
 
 -- a name stands above another
 pub data IsOver (t : Shown) : Name → Name → Type 0 where

@@ -22,9 +22,9 @@ size (Even version) = zero
 size (Stored version bytes) = zero
 
 -- so many seen nodes were met, each smaller than the one met before it, and each larger than a size
-abbrev pub Past : Shown → (Name → Option Node) → ℕ → ℕ → Type 0
-Past t s zero v = Unit {0}
-Past t s (suc k) v = (n : Name) × (u : Unfolded) × (t n ≡ Some u) × IsSome (s n) × (v < size u) × Past t s k (size u)
+abbrev pub MetInOrder : Shown → (Name → Option Node) → ℕ → ℕ → Type 0
+MetInOrder t s zero v = Unit {0}
+MetInOrder t s (suc k) v = (n : Name) × (u : Unfolded) × (t n ≡ Some u) × IsSome (s n) × (v < size u) × MetInOrder t s k (size u)
 
 -- a link leads here: it is live, and where it is missing it is wanted with the link's hash
 pub record Stand (old new : Shown) (d : Drafted) (c : Resident) (u : Unfolded) (l : Link) : Type 0 where
@@ -35,4 +35,4 @@ pub record Stand (old new : Shown) (d : Drafted) (c : Resident) (u : Unfolded) (
 pub record Way (old new : Shown) (d : Drafted) (c : Resident) (u : Unfolded) (at : Option Link) (k : ℕ) : Type 0 where
   pub leads : led_by at ≡ led u
   pub stands : (l : Link) → at ≡ Some l → Stand old new d c u l
-  pub past : Past new (seen d c) k (size u)
+  pub past : MetInOrder new (seen d c) k (size u)

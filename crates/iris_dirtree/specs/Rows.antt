@@ -43,17 +43,17 @@ abbrev pub row_entry : Row → Unfolded → Unfolded → Unfolded
 row_entry r less more = entry_of r.id r.name r.content less more
 
 -- a treap of rows as its topmost entry with those below it
-abbrev pub entries : Treap Row → Unfolded
-entries Empty = Absent
-entries (Over y l m) = row_entry y (entries l) (entries m)
+abbrev pub unfolded_rows : Treap Row → Unfolded
+unfolded_rows Empty = Absent
+unfolded_rows (Over y l m) = row_entry y (unfolded_rows l) (unfolded_rows m)
 
 -- a row stands above another: by their priorities under an order key, and of equal ones the smaller id
 abbrev pub up : List ℕ → Row → Row → Bool
 up key = beside (priority key) row_id
 
 -- what lies inside a directory of these rows
-unfoldable pub arranged : List ℕ → List Row → Unfolded
-arranged key rows = entries (treap (up key) rows)
+unfoldable pub treap_of_rows : List ℕ → List Row → Unfolded
+treap_of_rows key rows = unfolded_rows (treap (up key) rows)
 
 -- the entry of a directory, with this inside it
 abbrev pub IsFolderOf : ℕ → Unfolded → Option Unfolded → Type 0
@@ -67,7 +67,7 @@ IsFolderOf dir inside (Some (Stored version bytes)) = ⊥
 
 -- A directory has these rows in a table, in order of their names: its entry is over their treap.
 pub record HasRows (t : Shown) (key : List ℕ) (dir : FileId) (rows : List Row) : Type 0 where
-  pub entry : IsFolderOf dir.0 (arranged key rows) (t (name.Entry dir))
+  pub entry : IsFolderOf dir.0 (treap_of_rows key rows) (t (name.Entry dir))
   pub rising : Rising row_name rows
   pub distinct : Distinct row_id rows
   -- ids 0 and 1 are those of the roots, which stand in no directory
@@ -99,7 +99,7 @@ pub record Rearranges (t u : Shown) (key : List ℕ) (dir : FileId) (before afte
   pub rows : HasRows u key dir after
   -- a row that went is no node
   pub gone : (i : FileId) → has_id i.0 before ≡ true → has_id i.0 after ≡ false → u (name.Entry i) ≡ None
-  pub others : (n : Name) → IsElsewhere before after n → u n ≡ option_map (refilled dir.0 (arranged key after)) (t n)
+  pub others : (n : Name) → IsElsewhere before after n → u n ≡ option_map (refilled dir.0 (treap_of_rows key after)) (t n)
 
 -- counts of blocks have 64 bits
 abbrev pub IsCountable : Shown → Type 0

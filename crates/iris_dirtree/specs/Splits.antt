@@ -17,8 +17,8 @@ use Rattle.iris_cache.specs.declared.held.Short.TheVariants.{Need, NoMemory}
 use Rattle.iris_cache.specs.Resident.{Resident}
 use Rattle.iris_cache.specs.Drafted.{Drafted, drafted, known, seen}
 use Rattle.iris_dirtree.specs.declared.inserting.Crumb.{Crumb}
-use Rattle.iris_dirtree.specs.Rows.{Row, entries}
-use Rattle.iris_dirtree.specs.Ways.{before}
+use Rattle.iris_dirtree.specs.Rows.{Row, unfolded_rows}
+use Rattle.iris_dirtree.specs.Ways.{is_row_before}
 use Rattle.iris_dirtree.specs.Grafts.{Fork, around, entry_name, over, low_over, high_over, split_over, InRows, Once, WasHash, Fits, Leads, AreCrumbs, Passes, Walked}
 
 -- a name that is seen, or that of the entry that comes
@@ -68,17 +68,17 @@ pub record Halved (n : List ℕ) (old : Shown) (c : Resident) (i : FileId) (d e 
   pub is : around forks rest ≡ t
   pub crumbs : AreCrumbs old c d (split_over (name.Entry i)) forks ks
   pub passed : Each (Passes n) forks
-  pub low_leads : Leads old c lows (low (before n) rest)
-  pub high_leads : Leads old c highs (high (before n) rest)
-  pub low_fits : Fits old c (IsKnown d c i) e (low_over (name.Entry i) forks) (low (before n) rest)
-  pub high_fits : Fits old c (IsKnown d c i) e (high_over (name.Entry i) forks) (high (before n) rest)
+  pub low_leads : Leads old c lows (low (is_row_before n) rest)
+  pub high_leads : Leads old c highs (high (is_row_before n) rest)
+  pub low_fits : Fits old c (IsKnown d c i) e (low_over (name.Entry i) forks) (low (is_row_before n) rest)
+  pub high_fits : Fits old c (IsKnown d c i) e (high_over (name.Entry i) forks) (high (is_row_before n) rest)
   pub touched : Touches c d e rest
 
 -- a way down to the end of a treap of rows, which its row is to split
 pub record Splits (n : List ℕ) (old : Shown) (c : Resident) (i : FileId) (d : Drafted) (p : Name) (t : Treap Row) : Type 0 where
   pub fits : Fits old c (IsKnown d c i) d p t
   pub once : Once t
-  pub few : blocks (entries t) < 2 ^ 64
+  pub few : blocks (unfolded_rows t) < 2 ^ 64
 
 -- A treap grows: under a way the new one is made in the place of the old one.
 pub record Grows (old : Shown) (c : Resident) (i : FileId) (d e : Drafted) (p : Name) (t u : Treap Row) (ks : List Crumb) (link : Link) : Type 0 where
@@ -99,4 +99,4 @@ pub record Growing (old : Shown) (c : Resident) (i : FileId) (d : Drafted) (p : 
   pub once : Once t
   pub once_then : Once u
   pub fresh : InRows (name.Entry i) t → ⊥
-  pub few : blocks (entries u) < 2 ^ 64
+  pub few : blocks (unfolded_rows u) < 2 ^ 64

@@ -16,8 +16,8 @@ use Rattle.iris_cache.specs.Drafted.{Drafted, drafted, seen}
 use Rattle.iris_cache.specs.Pictures.{Holds, IsLike, LinkHolds, parent_after}
 pub use Rattle.iris_cache.specs.Pictures.{WasHash}
 use Rattle.iris_dirtree.specs.declared.removing.Crumb.{Crumb}
-use Rattle.iris_dirtree.specs.Planted.{IsWithin}
-use Rattle.iris_dirtree.specs.Rows.{Row, entries, row_entry}
+use Rattle.iris_dirtree.specs.Planted.{IsSubtreap}
+use Rattle.iris_dirtree.specs.Rows.{Row, unfolded_rows, row_entry}
 
 -- a row met on a way down, what lies on its other side, and whether the way goes on to greater names
 pub record Fork : Type 0 where
@@ -59,12 +59,12 @@ pub record Seat (old : Shown) (c : Resident) (d : Drafted) (p n : Name) (u : Unf
 abbrev pub Seated : Shown → Resident → Treap Row → Drafted → Name → Treap Row → Type 0
 Seated old c t d p Empty = Unit {0}
 Seated old c t d p (Over y l m) =
-    ((node : Node) → seen d c (entry_name y) ≡ Some node → Seat old c d p (entry_name y) (row_entry y (entries l) (entries m)) node)
-    × (seen d c (entry_name y) ≡ None → IsWithin (Over y l m) t) × Seated old c t d (entry_name y) l × Seated old c t d (entry_name y) m
+    ((node : Node) → seen d c (entry_name y) ≡ Some node → Seat old c d p (entry_name y) (row_entry y (unfolded_rows l) (unfolded_rows m)) node)
+    × (seen d c (entry_name y) ≡ None → IsSubtreap (Over y l m) t) × Seated old c t d (entry_name y) l × Seated old c t d (entry_name y) m
 
 -- a link leads to the top of a treap
 pub record Leads (old : Shown) (c : Resident) (link : Option Link) (t : Treap Row) : Type 0 where
-  pub led_is : led_by link ≡ led (entries t)
+  pub led_is : led_by link ≡ led (unfolded_rows t)
   pub hash : (m : Name) (h : Hash32) → LinkHolds link m h → WasHash old c m h
 
 -- a crumb is the seen node of a fork's row, with the hash by which it was reached
@@ -72,7 +72,7 @@ pub record IsCrumb (old : Shown) (c : Resident) (t : Treap Row) (d : Drafted) (x
   pub side : Treap Row
   pub right : e.right ≡ x.right
   pub sees : seen d c (entry_name x.row) ≡ Some (node.Entry e.node)
-  pub like : IsLike (Some (entries (forked x side))) (node.Entry e.node)
+  pub like : IsLike (Some (unfolded_rows (forked x side))) (node.Entry e.node)
   pub hashes : (m : Name) (h : Hash32) → Holds (node.Entry e.node) m h → WasHash old c m h
   pub reached : WasHash old c (entry_name x.row) e.hash
   pub other : Seated old c t d (entry_name x.row) x.other

@@ -5,12 +5,12 @@ use Rattle.iris_shape.specs.Treap.{Treap, Empty, Over, treap, skip, near, Each}
 use Rattle.iris_dirtree.specs.Rows.{Row, up}
 
 -- a row stands before a name
-abbrev pub before : List ℕ → Row → Bool
-before n r = less_name r.name n
+abbrev pub is_row_before : List ℕ → Row → Bool
+is_row_before n r = less_name r.name n
 
 -- a row has a name
-abbrev pub is_named : List ℕ → Row → Bool
-is_named n r = not (less_name r.name n) && not (less_name n r.name)
+abbrev pub has_name : List ℕ → Row → Bool
+has_name n r = not (less_name r.name n) && not (less_name n r.name)
 
 -- a row's name isn't greater than a name
 abbrev pub up_to : List ℕ → Row → Bool
@@ -33,11 +33,11 @@ along p e (Over y l m) = y ∷ cond (e y) [] (cond (p y) (along p e m) (along p 
 
 -- the rows met on going down towards a name
 abbrev pub along_name : List ℕ → List ℕ → List Row → List Row
-along_name name key rows = along (before name) (is_named name) (treap (up key) rows)
+along_name name key rows = along (is_row_before name) (has_name name) (treap (up key) rows)
 
 -- the rows met on going down to a name, and from its row to its neighbours
 abbrev pub near_name : List ℕ → List ℕ → List Row → List Row
-near_name name key rows = near (before name) (is_named name) (treap (up key) rows)
+near_name name key rows = near (is_row_before name) (has_name name) (treap (up key) rows)
 
 -- at most so many rows of the next greater names
 abbrev pub following : List ℕ → ℕ → List Row → List Row

@@ -4,19 +4,19 @@ ghost use Rattle.std.specs.Prelude.{◌≡◌, ◌≤◌, ◌<◌, ℕ, ◌^◌,
 ghost use Rattle.iris_name.specs.Hmac.{priority};
 ghost use Rattle.iris_name.specs.Names.{same_name};
 ghost use Rattle.iris_name.specs.declared.name.Name.{Name as SpecName};
-ghost use Rattle.iris_node.specs.Rules.{IsLinked};
+ghost use Rattle.iris_node.specs.Rules.{IsLinkToNamed};
 ghost use Rattle.iris_node.specs.Trees.{Shown, IsTree};
-ghost use Rattle.iris_shape.specs.Treap.{Treap, Each, treap, put};
+ghost use Rattle.iris_shape.specs.Treap.{Treap, Each, treap, rows_with};
 ghost use Rattle.iris_cache.specs.Resident.{Resident};
 ghost use Rattle.iris_cache.specs.Drafted.{Drafted, drafted, seen, set_to};
 ghost use Rattle.iris_cache.specs.Pictures.{Drafts};
 ghost use Rattle.iris_dirtree.specs.Counts.{IsEntryName};
 ghost use Rattle.iris_dirtree.specs.Rows.{Row, Rearranges, IsCountable, up};
-ghost use Rattle.iris_dirtree.specs.Ways.{before, along_name};
+ghost use Rattle.iris_dirtree.specs.Ways.{is_row_before, along_name};
 ghost use Rattle.iris_dirtree.specs.Hands.{IsRowNode, HoldsTrue};
 ghost use Rattle.iris_dirtree.specs.Needs.{IsDirectory, ListedInHand, IsShort};
 ghost use Rattle.iris_dirtree.specs.Planted.{Planted};
-ghost use Rattle.iris_dirtree.specs.Nodes.{toward, turned, between, LinksTo, IsLinkLack, IsPut, OnlyEntries};
+ghost use Rattle.iris_dirtree.specs.Nodes.{link_toward, turned, between, LinksTo, IsLinkLack, IsPut, OnlyEntries};
 ghost use Rattle.iris_dirtree.specs.Grafts.{Fits, Leads, Reached};
 ghost use Rattle.iris_dirtree.specs.Splits.{IsKnown, IsRead, IsWayShort, IsSplitWay, Splits, Halved, Growing, Grows};
 
@@ -51,8 +51,8 @@ impl Crumb {
 
     // The link by which the way goes on.
     fn next(&self) -> Option<Link>
-        ensures link { result ≡ toward self.now.right self.now.node }
-        ensures linked { IsLinked result }
+        ensures link { result ≡ link_toward self.now.right self.now.node }
+        ensures linked { IsLinkToNamed result }
     {
         side(&self.node, self.right)
     }
@@ -132,11 +132,11 @@ fn walk_above(
     name: &Text,
     id: FileId,
 ) -> Result<Above, Short>
-    requires linked { IsLinked top }
+    requires linked { IsLinkToNamed top }
     ensures reached { IfOk result (λ r. (old : Shown) → (t : Treap Row) → Fits old cache.now (IsKnown draft.now cache.now id) draft.now (Name.Entry dir) t → Leads old cache.now top t
         → Reached (priority keys.now.order) id name.now old cache.now draft.now (Name.Entry dir) t r.path.items r.last r.at) }
     ensures rows { IfOk result (λ r. Each (λ k. 2 ≤ k.node.id.0) r.path.items) }
-    ensures linked { IfOk result (λ r. IsLinked r.at) }
+    ensures linked { IfOk result (λ r. IsLinkToNamed r.at) }
     ensures short { IfErr result (IsWayShort name.now top cache.now draft.now (IsKnown draft.now cache.now id) (Name.Entry dir)) }
 {
     let rank = priority(keys, id);
@@ -167,7 +167,7 @@ fn walk_below(
     name: &Text,
     id: FileId,
 ) -> Result<Vec<Crumb>, Short>
-    requires linked { IsLinked top }
+    requires linked { IsLinkToNamed top }
     ensures walked { IfOk result (λ path. (old : Shown) → (p : SpecName) → (t : Treap Row) → Fits old cache.now (IsKnown draft.now cache.now id) draft.now p t → Leads old cache.now top t
         → IsSplitWay name.now old cache.now id draft.now t path.items) }
     ensures rows { IfOk result (λ path. Each (λ k. 2 ≤ k.node.id.0) path.items) }
@@ -194,7 +194,7 @@ fn walk_below(
 // Sets a crumb's entry over a link, below its parent, and links to it.
 fn rehang(draft: &mut Draft, crumb: Crumb, link: Option<Link>) -> Result<Link, NoMemory>
     requires row { 2 ≤ crumb.node.id.0 }
-    requires linked { IsLinked link }
+    requires linked { IsLinkToNamed link }
     ensures link { IfOk result (λ l. LinksTo (turned crumb.right link crumb.node) crumb.hash l) }
     ensures linked { IfOk result (λ l. 2 ≤ l.id.0) }
     ensures set { OnOk result (IsPut draft.old draft.new (Some (Name.Entry crumb.parent)) (turned crumb.right link crumb.node)) }
@@ -208,8 +208,8 @@ fn rise(draft: &mut Draft, path: Vec<Crumb>) -> Result<Halves, NoMemory>
     requires rows { Each (λ k. 2 ≤ k.node.id.0) path.items }
     ensures halved { IfOk result (λ h. (n : List ℕ) → (old : Shown) → (c : Resident) → (i : FileId) → (p : SpecName) → (t : Treap Row) → Splits n old c i draft.old p t
         → IsSplitWay n old c i draft.old t path.items → Halved n old c i draft.old draft.new t [] h.low h.high) }
-    ensures low { IfOk result (λ h. IsLinked h.low) }
-    ensures high { IfOk result (λ h. IsLinked h.high) }
+    ensures low { IfOk result (λ h. IsLinkToNamed h.low) }
+    ensures high { IfOk result (λ h. IsLinkToNamed h.high) }
     ensures entries { OnOk result (OnlyEntries draft.old draft.new) }
 {
     let mut path = path;
@@ -233,8 +233,8 @@ fn seat(
     halves: Halves,
 ) -> Result<Link, NoMemory>
     requires row { 2 ≤ node.id.0 }
-    requires low { IsLinked halves.low }
-    requires high { IsLinked halves.high }
+    requires low { IsLinkToNamed halves.low }
+    requires high { IsLinkToNamed halves.high }
     ensures link { IfOk result (λ l. LinksTo (between halves.low halves.high node) hash l) }
     ensures linked { IfOk result (λ l. 2 ≤ l.id.0) }
     ensures set { OnOk result (IsPut draft.old draft.new (Some (Name.Entry parent)) (between halves.low halves.high node)) }
@@ -272,7 +272,7 @@ fn plant(
     requires dir { IsDirectory draft.old cache.now dir }
     requires row { 2 ≤ node.id.0 }
     ensures planted { OnOk result ((old new made : Shown) → (x : Row) → (rows : List Row) → ListedInHand keys.now.order dir x draft.old cache.now old new rows → IsRowNode x node → HoldsTrue old cache.now node → IsTree made → IsCountable made
-        → Rearranges new made keys.now.order dir rows (put (before x.name) x rows) → IsSome (seen draft.old cache.now (Name.Entry dir)) × Planted old dir (treap (up keys.now.order) rows) (treap (up keys.now.order) (put (before x.name) x rows)) draft.old draft.new cache.now) }
+        → Rearranges new made keys.now.order dir rows (rows_with (is_row_before x.name) x rows) → IsSome (seen draft.old cache.now (Name.Entry dir)) × Planted old dir (treap (up keys.now.order) rows) (treap (up keys.now.order) (rows_with (is_row_before x.name) x rows)) draft.old draft.new cache.now) }
     ensures entries { OnOk result (OnlyEntries draft.old draft.new) }
     ensures short { IfErr result (λ e. (x : Row) → IsShort (ListedInHand keys.now.order dir x draft.old cache.now) (along_name node.name keys.now.order) draft.old cache.now dir e) }
 {
@@ -300,7 +300,7 @@ pub fn plan_insert(
 ) -> Result<(), Short>
     requires dir { IsDirectory draft.old cache.now dir }
     ensures inserted { OnOk result ((old new made : Shown) → (x : Row) → (rows : List Row) → ListedInHand keys.now.order dir x draft.old cache.now old new rows → IsRowNode x node → HoldsTrue old cache.now node → IsTree made → IsCountable made
-        → Rearranges new made keys.now.order dir rows (put (before x.name) x rows) → Drafts old made draft.new cache.now) }
+        → Rearranges new made keys.now.order dir rows (rows_with (is_row_before x.name) x rows) → Drafts old made draft.new cache.now) }
     ensures stays { OnOk result ((n : SpecName) → IsSome (seen draft.old cache.now n) → IsSome (seen draft.new cache.now n)) }
     ensures others { OnOk result ((n : SpecName) → (IsEntryName n → ⊥) → drafted draft.new n ≡ drafted draft.old n) }
     ensures short { IfErr result (λ e. (x : Row) → IsShort (ListedInHand keys.now.order dir x draft.old cache.now) (along_name node.name keys.now.order) draft.old cache.now dir e) }

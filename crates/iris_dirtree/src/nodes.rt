@@ -5,12 +5,12 @@ ghost use Rattle.iris_name.specs.Hmac.{priority as priority_of};
 ghost use Rattle.iris_name.specs.Names.{same_name};
 ghost use Rattle.iris_name.specs.declared.name.Name.{Name as SpecName};
 ghost use Rattle.iris_node.specs.Fields.{EntryFields};
-ghost use Rattle.iris_node.specs.Rules.{IsEntry, IsLinked};
+ghost use Rattle.iris_node.specs.Rules.{IsEntry, IsLinkToNamed};
 ghost use Rattle.iris_shape.specs.Order.{less_name, outranks, beats};
 ghost use Rattle.iris_cache.specs.Drafted.{drafted, seen, set_to};
 ghost use Rattle.iris_cache.specs.Pictures.{parent_after};
 ghost use Rattle.iris_dirtree.specs.Needs.{IsDirectory};
-ghost use Rattle.iris_dirtree.specs.Nodes.{toward, turned, between, link_blocks, own_blocks, node_blocks, LinksTo, IsPut, dir_top, IsLinkLack, IsTopLack, OnlyEntries};
+ghost use Rattle.iris_dirtree.specs.Nodes.{link_toward, turned, between, link_blocks, own_blocks, node_blocks, LinksTo, IsPut, dir_top, IsLinkLack, IsTopLack, OnlyEntries};
 ghost use Rattle.iris_dirtree.specs.Planted.{topped, with_top};
 
 use iris_cache::{Cache, Draft, Short};
@@ -56,8 +56,8 @@ pub(crate) fn stands_above(keys: &Keys, rank: u64, a: FileId, b: FileId) -> bool
 
 /// The link to the entries of greater names, or to those of lesser ones.
 pub(crate) fn side(entry: &EntryNode, right: bool) -> Option<Link>
-    ensures link { result ≡ toward right entry.now }
-    ensures linked { IsLinked result }
+    ensures link { result ≡ link_toward right entry.now }
+    ensures linked { IsLinkToNamed result }
 {
     if right { entry.right } else { entry.left }
 }
@@ -65,7 +65,7 @@ pub(crate) fn side(entry: &EntryNode, right: bool) -> Option<Link>
 /// The entry with another link on one side.
 pub(crate) fn turn(entry: EntryNode, right: bool, link: Option<Link>) -> EntryNode
     requires row { 2 ≤ entry.id.0 }
-    requires linked { IsLinked link }
+    requires linked { IsLinkToNamed link }
     ensures { result ≡ turned right link entry }
 {
     if right {
@@ -78,8 +78,8 @@ pub(crate) fn turn(entry: EntryNode, right: bool, link: Option<Link>) -> EntryNo
 /// The entry with other links beside it.
 pub(crate) fn between(low: Option<Link>, high: Option<Link>, entry: EntryNode) -> EntryNode
     requires row { 2 ≤ entry.id.0 }
-    requires low { IsLinked low }
-    requires high { IsLinked high }
+    requires low { IsLinkToNamed low }
+    requires high { IsLinkToNamed high }
     ensures { result ≡ between low high entry }
 {
     EntryNode {
@@ -211,7 +211,7 @@ pub(crate) fn entry_at(
 // The link inside a directory.
 fn top_in(entry: &EntryNode) -> Option<Option<Link>>
     ensures top { result ≡ dir_top (Some (Node.Entry entry.now)) }
-    ensures linked { IfSome result (λ top. IsLinked top) }
+    ensures linked { IfSome result (λ top. IsLinkToNamed top) }
 {
     match entry.body {
         Body::Dir { top } => Some(top),
@@ -223,7 +223,7 @@ fn top_in(entry: &EntryNode) -> Option<Option<Link>>
 pub(crate) fn top_of(draft: &Draft, cache: &Cache, dir: FileId) -> Result<Option<Link>, Short>
     requires { IsDirectory draft.now cache.now dir }
     ensures top { IfOk result (λ top. dir_top (seen draft.now cache.now (Name.Entry dir)) ≡ Some top) }
-    ensures linked { IfOk result (λ top. IsLinked top) }
+    ensures linked { IfOk result (λ top. IsLinkToNamed top) }
     ensures short { IfErr result (IsTopLack draft.now cache.now dir) }
 {
     let name = Name::Entry { id: dir };
@@ -251,7 +251,7 @@ fn topped(body: Body, top: Option<Link>) -> Body
 
 // The entry of a directory with another link inside.
 fn with_top(entry: EntryNode, top: Option<Link>) -> EntryNode
-    requires { IsLinked top }
+    requires { IsLinkToNamed top }
     ensures { result ≡ with_top top entry }
 {
     EntryNode {
@@ -271,7 +271,7 @@ pub(crate) fn set_top(
     dir: FileId,
     top: Option<Link>,
 ) -> Result<(), NoMemory>
-    requires { IsLinked top }
+    requires { IsLinkToNamed top }
     ensures entry { OnOk result ((e : EntryFields) → seen draft.old cache.now (Name.Entry dir) ≡ Some (Node.Entry e) → drafted draft.new (Name.Entry dir) ≡ Some (set_to (parent_after draft.old cache.now (Name.Entry dir)) (Node.Entry (with_top top e)))) }
     ensures frame { OnOk result ((n : SpecName) → same_name (Name.Entry dir) n ≡ false → drafted draft.new n ≡ drafted draft.old n) }
     ensures entries { OnOk result (OnlyEntries draft.old draft.new) }

@@ -4,10 +4,10 @@ ghost use Rattle.std.specs.Prelude.{◌≡◌, ◌≤◌, ◌<◌, ◌^◌, ◌+
 ghost use Rattle.iris_name.specs.declared.name.Name.{Name as SpecName};
 ghost use Rattle.iris_node.specs.declared.node.Link.{Link as AnyLink};
 ghost use Rattle.iris_node.specs.Fields.{EntryFields};
-ghost use Rattle.iris_node.specs.Rules.{IsLinked};
+ghost use Rattle.iris_node.specs.Rules.{IsLinkToNamed};
 ghost use Rattle.iris_node.specs.Trees.{IsTree, Shown};
 ghost use Rattle.iris_node.specs.Unfolded.{blocks};
-ghost use Rattle.iris_shape.specs.Treap.{Treap, treap, without};
+ghost use Rattle.iris_shape.specs.Treap.{Treap, treap, rows_without};
 ghost use Rattle.iris_cache.specs.Drafted.{Drafted, drafted, seen};
 ghost use Rattle.iris_dirtree.specs.Descents.{Seeking, FoundRow, Joining, Ended, IsStop, Seeks, Joins};
 ghost use Rattle.iris_dirtree.specs.Hands.{Holding, HoldsTrue, IsRowNode};
@@ -15,9 +15,9 @@ ghost use Rattle.iris_dirtree.specs.Counts.{IsEntryName};
 ghost use Rattle.iris_dirtree.specs.Needs.{IsDirectory, IsShort, Listed};
 ghost use Rattle.iris_dirtree.specs.Nodes.{IsPut, LinksTo, between, turned};
 ghost use Rattle.iris_dirtree.specs.Planted.{Planted};
-ghost use Rattle.iris_dirtree.specs.Rows.{IsCountable, Rearranges, Row, arranged, entries, up};
+ghost use Rattle.iris_dirtree.specs.Rows.{IsCountable, Rearranges, Row, treap_of_rows, unfolded_rows, up};
 ghost use Rattle.iris_dirtree.specs.Steps.{AreNamed, Once, Rising, crumb_above};
-ghost use Rattle.iris_dirtree.specs.Ways.{Any, is_named, near_name};
+ghost use Rattle.iris_dirtree.specs.Ways.{Any, has_name, near_name};
 
 use crate::counting::recount;
 use crate::finding::longest_way;
@@ -67,7 +67,7 @@ fn find_row(
     top: Option<Link>,
     name: &Text,
 ) -> Result<Found, Short>
-    requires { IsLinked top }
+    requires { IsLinkToNamed top }
     ensures found { IfOk result (λ r. (old new : Shown) → (t : Treap Row) → (p : SpecName) → (up : Row → Row → Bool) → Seeking old new cache.now t draft.now p up name.now [] top → FoundRow old new cache.now t draft.now up name.now r.path.items r.row) }
     ensures named { IfOk result (λ r. AreNamed r.path.items) }
     ensures short { IfErr result (IsStop (Seeks draft.now cache.now name.now top) draft.now cache.now) }
@@ -100,7 +100,7 @@ fn chosen(right: bool, x: Link, y: Link) -> Link
 fn rest_less(right: bool, node: &EntryNode, x: Link) -> Option<Link>
     requires { 2 ≤ x.id.0 }
     ensures link { result ≡ cond right node.now.right (Some x) }
-    ensures linked { IsLinked result }
+    ensures linked { IsLinkToNamed result }
 {
     if right { node.right } else { Some(x) }
 }
@@ -109,7 +109,7 @@ fn rest_less(right: bool, node: &EntryNode, x: Link) -> Option<Link>
 fn rest_more(right: bool, node: &EntryNode, y: Link) -> Option<Link>
     requires { 2 ≤ y.id.0 }
     ensures link { result ≡ cond right (Some y) node.now.left }
-    ensures linked { IsLinked result }
+    ensures linked { IsLinkToNamed result }
 {
     if right { Some(y) } else { node.left }
 }
@@ -126,7 +126,7 @@ fn join_sides(
     requires { AreNamed path.items }
     ensures ended { IfOk result (λ r. (old new : Shown) → (t u : Treap Row) → (met : List Row) → Joining old new cache.now t draft.now (up keys.now.order) met u path.items row.now.left row.now.right → Ended old cache.now t draft.now u r.path.items r.end) }
     ensures named { IfOk result (λ r. AreNamed r.path.items) }
-    ensures linked { IfOk result (λ r. IsLinked r.end) }
+    ensures linked { IfOk result (λ r. IsLinkToNamed r.end) }
     ensures short { IfErr result (IsStop (Joins draft.now cache.now (up keys.now.order) path.items row.now.left row.now.right) draft.now cache.now) }
 {
     let mut path = path;
@@ -191,7 +191,7 @@ fn rehang(
     link: Option<Link>,
 ) -> Result<Link, NoMemory>
     requires row { 2 ≤ crumb.node.id.0 }
-    requires linked { IsLinked link }
+    requires linked { IsLinkToNamed link }
     ensures link { IfOk result (LinksTo (turned crumb.right link crumb.node) crumb.hash) }
     ensures set { OnOk result (IsPut draft.old draft.new (Some (Name.Entry parent)) (turned crumb.right link crumb.node)) }
 {
@@ -208,10 +208,10 @@ fn climb(
     end: Option<Link>,
 ) -> Result<Option<Link>, NoMemory>
     requires named { AreNamed path.items }
-    requires linked { IsLinked end }
-    ensures risen { IfOk result (λ k. (old : Shown) → (t u : Treap Row) → (d : Drafted) → Once u → blocks (entries u) < 2 ^ 64 → IsSome (seen d cache.now (Name.Entry dir))
+    requires linked { IsLinkToNamed end }
+    ensures risen { IfOk result (λ k. (old : Shown) → (t u : Treap Row) → (d : Drafted) → Once u → blocks (unfolded_rows u) < 2 ^ 64 → IsSome (seen d cache.now (Name.Entry dir))
         → Rising old cache.now t d draft.old (Name.Entry dir) u path.items end → Rising old cache.now t d draft.new (Name.Entry dir) u [] k) }
-    ensures linked { IfOk result (λ k. IsLinked k) }
+    ensures linked { IfOk result (λ k. IsLinkToNamed k) }
     ensures stays { OnOk result ((n : SpecName) → IsSome (seen draft.old cache.now n) → IsSome (seen draft.new cache.now n)) }
     ensures others { OnOk result ((n : SpecName) → (IsEntryName n → ⊥) → drafted draft.new n ≡ drafted draft.old n) }
 {
@@ -235,7 +235,7 @@ fn unplant(
 ) -> Result<EntryNode, Short>
     requires { IsDirectory draft.old cache.now dir }
     ensures planted { IfOk result (λ e. (old new : Shown) → (x : Row) → (rows : List Row) → Listed keys.now.order dir draft.old cache.now old new rows → Any (λ r. r ≡ x) rows → x.name ≡ name.now
-        → blocks (arranged keys.now.order (without (is_named name.now) rows)) < 2 ^ 64 → Planted old dir (treap (up keys.now.order) rows) (treap (up keys.now.order) (without (is_named name.now) rows)) draft.old draft.new cache.now) }
+        → blocks (treap_of_rows keys.now.order (rows_without (has_name name.now) rows)) < 2 ^ 64 → Planted old dir (treap (up keys.now.order) rows) (treap (up keys.now.order) (rows_without (has_name name.now) rows)) draft.old draft.new cache.now) }
     ensures there { OnOk result (IsSome (seen draft.old cache.now (Name.Entry dir))) }
     ensures row { IfOk result (λ e. (old new : Shown) → (x : Row) → (rows : List Row) → Listed keys.now.order dir draft.old cache.now old new rows → Any (λ r. r ≡ x) rows → x.name ≡ name.now → IsRowNode x e × HoldsTrue old cache.now e) }
     ensures stays { IfOk result (λ e. (n : SpecName) → IsSome (seen draft.old cache.now n) → (n ≡ Name.Entry e.id → ⊥) → IsSome (seen draft.new cache.now n)) }
@@ -278,7 +278,7 @@ pub fn plan_remove(
 ) -> Result<EntryNode, Short>
     requires dir { IsDirectory draft.old cache.now dir }
     ensures removed { IfOk result (λ e. (old new made : Shown) → (x : Row) → (rows : List Row) → Listed keys.now.order dir draft.old cache.now old new rows → Any (λ r. r ≡ x) rows → x.name ≡ name.now
-        → IsTree made → IsCountable made → Rearranges new made keys.now.order dir rows (without (is_named name.now) rows) → Holding old made (Some x) draft.new cache.now × IsRowNode x e × HoldsTrue old cache.now e) }
+        → IsTree made → IsCountable made → Rearranges new made keys.now.order dir rows (rows_without (has_name name.now) rows) → Holding old made (Some x) draft.new cache.now × IsRowNode x e × HoldsTrue old cache.now e) }
     ensures bare { IfOk result (λ e. (e.left ≡ None) × (e.right ≡ None)) }
     ensures stays { IfOk result (λ e. (n : SpecName) → IsSome (seen draft.old cache.now n) → (n ≡ Name.Entry e.id → ⊥) → IsSome (seen draft.new cache.now n)) }
     ensures others { OnOk result ((n : SpecName) → (IsEntryName n → ⊥) → drafted draft.new n ≡ drafted draft.old n) }

@@ -7,7 +7,7 @@ use Rattle.iris_name.specs.declared.request.Request.{Request}
 use Rattle.iris_name.specs.History.{Past, Stamped, oldest, began, begun, since_of, AllSince, noted, past_of}
 use Rattle.iris_name.specs.Names.{same_name}
 use Rattle.iris_history.specs.Answers.{Last, Nothing, Stored, Gone, last_by, last_of}
-use Rattle.iris_history.specs.Kept.{Kept, table_of, after, takes_step}
+use Rattle.iris_history.specs.Kept.{Kept, table_of, after_note, takes_step}
 use Rattle.iris_history.specs.Legal.{ComesAfter}
 
 -- a note that begins where it stands began on the whole past
@@ -41,7 +41,7 @@ AllSince-at P n (x ∷ past) h le = elim (le_or n (length past)) [
 pub table_keeps : (k : Kept) (P : k.Table → Type 0) → P k.start → ((t : k.Table) (r : Request) → P t → P (k.step t r)) → (past : Past) → P (table_of k past)
 table_keeps k P s f [] = s
 table_keeps k P s f (x ∷ past) = by_note (table_of k past) x.note (table_keeps k P s f past) where
-  by_note : (t : k.Table) (note : Note) → P t → P (after k t note)
+  by_note : (t : k.Table) (note : Note) → P t → P (after_note k t note)
   by_note t (Call who request reply) h = elim (takes_step reply) as (λ v. P (cond v (k.step t request) t)) [ true ↦ f t request h | false ↦ h ]
   by_note t (Got who since name answer) h = h
   by_note t (Put who since name bytes ok) h = h

@@ -48,16 +48,16 @@ takes_step (Refused c) = false
 takes_step _ = true
 
 -- the table after a note
-abbrev pub after : (k : Kept) → k.Table → Note → k.Table
-after k t (Call who request reply) = if takes_step reply then k.step t request else t
-after k t (Got who since name answer) = t
-after k t (Put who since name bytes ok) = t
-after k t (Dropped who since name ok) = t
+abbrev pub after_note : (k : Kept) → k.Table → Note → k.Table
+after_note k t (Call who request reply) = if takes_step reply then k.step t request else t
+after_note k t (Got who since name answer) = t
+after_note k t (Put who since name bytes ok) = t
+after_note k t (Dropped who since name ok) = t
 
 -- the table to which the calls of a past led
 abbrev pub table_of : (k : Kept) → Past → k.Table
 table_of k [] = k.start
-table_of k (x ∷ past) = after k (table_of k past) x.note
+table_of k (x ∷ past) = after_note k (table_of k past) x.note
 
 -- what a name stands for after a past
 abbrev pub shown_in : (k : Kept) → Past → Name → Option k.Unfolded

@@ -9,7 +9,7 @@ use Rattle.iris_name.specs.declared.request.Request.{Request}
 use Rattle.iris_name.specs.History.{Past, Stamped, oldest, begun}
 use Rattle.iris_history.specs.Answers.{Stored, last_of}
 use Rattle.iris_history.specs.Breaks.{Breaks}
-use Rattle.iris_history.specs.Kept.{Kept, Carries, after, shown_in}
+use Rattle.iris_history.specs.Kept.{Kept, Carries, after_note, shown_in}
 use Rattle.iris_history.specs.Legal.{Rules, IsBad, IsLegal}
 use Rattle.iris_history.specs.Status.{IsClean}
 
@@ -29,7 +29,7 @@ BadOnLegal k r = (past : Past) → IsBad k r past
 -- a call that is refused, or answered by a plain error, leaves the table
 abbrev pub RefusedLeaves : Kept → Type 0
 RefusedLeaves k = (t : k.Table) (who : ℕ) (request : Request)
-    → ((cause : Cause) → after k t (Call who request (Refused cause)) ≡ t) × ((error : PlainError) → after k t (Call who request (Plain error)) ≡ t)
+    → ((cause : Cause) → after_note k t (Call who request (Refused cause)) ≡ t) × ((error : PlainError) → after_note k t (Call who request (Plain error)) ≡ t)
 
 -- what was put last of a name is the record of what the name stood for when that put began
 abbrev pub LastPutIsTrue : Kept → Rules → Type 0

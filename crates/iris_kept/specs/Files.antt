@@ -13,9 +13,9 @@ use Rattle.iris_history.specs.Kept.{Kept, table_of}
 use Rattle.iris_history.specs.Legal.{Rules, IsLegal, IsBad}
 use Rattle.iris_history.specs.Status.{IsDirty}
 use Rattle.iris_node.specs.Unfolded.{Unfolded, Absent, Folder, Leaf, Even, Split, Stored}
-use Rattle.iris_table.specs.Ages.{Stands}
+use Rattle.iris_table.specs.Ages.{StandsInTable}
 use Rattle.iris_table.specs.Challenges.{table_walk}
-use Rattle.iris_table.specs.Changes.{stepped, filled}
+use Rattle.iris_table.specs.Changes.{stepped, count_written}
 use Rattle.iris_table.specs.Records.{spelled}
 use Rattle.iris_table.specs.Replies.{TableReplies}
 use Rattle.iris_table.specs.Rows.{File, Table, empty_table}
@@ -54,7 +54,7 @@ FileReplies keys past request reply = TableReplies keys.order (files_after keys 
 
 -- a place that a step of reclaiming drops from a file
 abbrev pub IsDropped : Table → FileId → ℕ → Type 0
-IsDropped t id p = (f : File) × Stands id.0 f t × (f.version p ≢ 0) × (filled f.version p < 16)
+IsDropped t id p = (f : File) × StandsInTable id.0 f t × (f.version p ≢ 0) × (count_written f.version p < 16)
 
 abbrev pub file_rules : Keys → Rules
 file_rules keys = record {
@@ -63,8 +63,8 @@ file_rules keys = record {
   waits = MayWaitForStore (files keys);
 }
 
-abbrev pub Legal : Keys → Past → Type 0
-Legal keys past = IsLegal (files keys) (file_rules keys) past
+abbrev pub LegalFiles : Keys → Past → Type 0
+LegalFiles keys past = IsLegal (files keys) (file_rules keys) past
 
-abbrev pub Bad : Keys → Past → Type 0
-Bad keys past = IsBad (files keys) (file_rules keys) past
+abbrev pub BadFiles : Keys → Past → Type 0
+BadFiles keys past = IsBad (files keys) (file_rules keys) past

@@ -10,8 +10,8 @@ use Rattle.iris_node.specs.declared.node.Link.{Link}
 use Rattle.iris_node.specs.declared.node.Body.{Body}
 use Rattle.iris_node.specs.declared.node.Body.TheVariants.{Dir, File}
 use Rattle.iris_node.specs.Fields.{EntryFields, PartFields}
-use Rattle.iris_node.specs.Rules.{IsEntry, IsPart, IsRoot, IsFileName, IsLinked, IsBody, IsDir, IsFold, Differ}
-use Rattle.iris_node.specs.Tests.{is_dots, is_file_name, is_linked, is_body, is_dir, is_root, is_placed, is_entry, is_fold, differ, is_part}
+use Rattle.iris_node.specs.Rules.{IsEntry, IsPart, IsRoot, IsFileName, IsLinkToNamed, IsBody, IsDir, IsFold, AreUnequalSides}
+use Rattle.iris_node.specs.Tests.{is_dots, is_file_name, is_linked, is_body, is_directory_body, is_root, is_placed, is_entry, is_fold, differ, is_part}
 
 both : (a b : Bool) → a ≡ true → b ≡ true → (a && b) ≡ true
 both true b h k = k
@@ -37,19 +37,19 @@ none_test : {A : Type 0} (o : Option A) → o ≡ None → is_none o ≡ true
 none_test None h = refl
 none_test (Some x) h = absurd cc
 
-linked_kept : (o : Option Link) → is_linked o ≡ true → IsLinked o
+linked_kept : (o : Option Link) → is_linked o ≡ true → IsLinkToNamed o
 linked_kept None h = tt
 linked_kept (Some l) h = le_from 2 l.id.0 h
 
-linked_test : (o : Option Link) → IsLinked o → is_linked o ≡ true
+linked_test : (o : Option Link) → IsLinkToNamed o → is_linked o ≡ true
 linked_test None h = refl
 linked_test (Some l) h = le_test 2 l.id.0 h
 
-dir_kept : (b : Body) → is_dir b ≡ true → IsDir b
+dir_kept : (b : Body) → is_directory_body b ≡ true → IsDir b
 dir_kept (Dir top) h = tt
 dir_kept (File size counter versions) h = absurd cc
 
-dir_test : (b : Body) → IsDir b → is_dir b ≡ true
+dir_test : (b : Body) → IsDir b → is_directory_body b ≡ true
 dir_test (Dir top) h = refl
 dir_test (File size counter versions) h = absurd h
 
@@ -147,7 +147,7 @@ fold_test : (s : Side) → IsFold s → is_fold s ≡ true
 fold_test (Fold v) h = refl
 fold_test (Below b) h = absurd h
 
-differ_kept : (a b : Side) → differ a b ≡ true → Differ a b
+differ_kept : (a b : Side) → differ a b ≡ true → AreUnequalSides a b
 differ_kept (Fold v) (Fold w) h = λ e. by (v == w) (eq_test v w e) h
   where
     by : (t : Bool) → t ≡ true → not t ≡ true → ⊥
@@ -159,7 +159,7 @@ differ_kept (Fold v) (Fold w) h = λ e. by (v == w) (eq_test v w e) h
 differ_kept (Fold v) (Below b) h = tt
 differ_kept (Below a) b h = tt
 
-differ_test : (a b : Side) → Differ a b → differ a b ≡ true
+differ_test : (a b : Side) → AreUnequalSides a b → differ a b ≡ true
 differ_test (Fold v) (Fold w) h = by (v == w) (λ e. h (eqb-true v w e))
   where
     by : (t : Bool) → (t ≡ true → ⊥) → not t ≡ true

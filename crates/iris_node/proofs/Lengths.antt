@@ -11,14 +11,14 @@ use Rattle.iris_node.specs.declared.node.Node.TheVariants.{Entry, Part}
 use Rattle.iris_node.specs.Fields.{EntryFields}
 use Rattle.iris_node.specs.Rules.{IsEntry}
 use Rattle.iris_node.specs.Nodes.{FitsLink, FitsSide, FitsBody}
-use Rattle.iris_node.specs.Spelling.{link, side, named, body, spelling}
+use Rattle.iris_node.specs.Spelling.{link, spelled_side, named, body, spelling}
 use Rattle.iris_node.specs.Laws.{Sizes}
 
 link_size : (o : Option Link) → FitsLink o → length (link o) ≤ 49
 link_size None h = omega arith
 link_size (Some l) h = omega (arith, h.1, length-append l.hash.0 (to_be_bytes w64 l.blocks))
 
-side_size : (s : Side) → FitsSide s → length (side s) ≤ 33
+side_size : (s : Side) → FitsSide s → length (spelled_side s) ≤ 33
 side_size (Fold v) h = omega arith
 side_size (Below b) h = omega (arith, h)
 
@@ -45,4 +45,4 @@ sizes (Entry e) h =
 sizes (Part p) h =
     let a = side_size p.low h.1.low in
     let b = side_size p.high h.1.high in
-    omega (arith, a, b, length-append (side p.low) (side p.high))
+    omega (arith, a, b, length-append (spelled_side p.low) (spelled_side p.high))

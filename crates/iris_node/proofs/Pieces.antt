@@ -12,8 +12,8 @@ use Rattle.iris_node.specs.declared.node.Side.{Side}
 use Rattle.iris_node.specs.declared.node.Side.TheVariants.{Fold, Below}
 use Rattle.iris_node.specs.declared.node.Link.{Link}
 use Rattle.iris_node.specs.Nodes.{FitsHash, FitsLink, FitsSide}
-use Rattle.iris_node.specs.Spelling.{link, side, named}
-use Rattle.iris_node.specs.Reading.{◌>>=◌, id_of, number_at, byte_at, hash_at, link_at, side_at, text_in, named_at}
+use Rattle.iris_node.specs.Spelling.{link, spelled_side, named}
+use Rattle.iris_node.specs.Reading.{◌>>=◌, id_of, number_at, read_byte, hash_at, link_at, side_at, text_in, named_at}
 
 abbrev pub IsBytes : List ℕ → Type 0
 IsBytes bytes = (i : ℕ) → get_or bytes i 0 < 256
@@ -104,7 +104,7 @@ number_again w limit wide n rest lt =
 
 -- ---- one byte
 
-pub byte_takes : (bytes : List ℕ) (x : ℕ × List ℕ) → IsBytes bytes → byte_at bytes ≡ Some x → Takes bytes (x.0 ∷ []) x.1
+pub byte_takes : (bytes : List ℕ) (x : ℕ × List ℕ) → IsBytes bytes → read_byte bytes ≡ Some x → Takes bytes (x.0 ∷ []) x.1
 byte_takes [] x fits e = absurd cc
 byte_takes (b ∷ bytes) x fits e =
     subst (λ (y : ℕ × List ℕ). Takes (b ∷ bytes) (y.0 ∷ []) y.1) (some_is (b, bytes) x e) (record { parts = refl; rest_fits = IsBytes-rest b bytes fits })
@@ -158,22 +158,22 @@ link_again (Some l) rest h =
 
 -- ---- sides
 
-pub side_takes : (bytes : List ℕ) (x : Side × List ℕ) → IsBytes bytes → side_at bytes ≡ Some x → Takes bytes (side x.0) x.1 × FitsSide x.0
+pub side_takes : (bytes : List ℕ) (x : Side × List ℕ) → IsBytes bytes → side_at bytes ≡ Some x → Takes bytes (spelled_side x.0) x.1 × FitsSide x.0
 unfolding side_at
 side_takes [] x fits e = absurd cc
 side_takes (zero ∷ bytes) x fits e =
     let a = bind_some (number_at w64 bytes) (λ version. Some (Fold version.0, version.1)) x e in
     let t = number_takes w64 (2 ^ 64) wide64 bytes a.0.0 a.0.1 (IsBytes-rest 0 bytes fits) a.1 in
     let made : Side × List ℕ = (Fold a.0.0, a.0.1) in
-    subst (λ (y : Side × List ℕ). Takes (0 ∷ bytes) (side y.0) y.1 × FitsSide y.0) (some_is made x a.2) (Takes-more 0 bytes (to_be_bytes w64 a.0.0) a.0.1 t.0, t.1)
+    subst (λ (y : Side × List ℕ). Takes (0 ∷ bytes) (spelled_side y.0) y.1 × FitsSide y.0) (some_is made x a.2) (Takes-more 0 bytes (to_be_bytes w64 a.0.0) a.0.1 t.0, t.1)
 side_takes (suc zero ∷ bytes) x fits e =
     let a = bind_some (hash_at bytes) (λ hash. Some (Below hash.0, hash.1)) x e in
     let t = hash_takes bytes a.0 (IsBytes-rest 1 bytes fits) a.1 in
     let made : Side × List ℕ = (Below a.0.0, a.0.1) in
-    subst (λ (y : Side × List ℕ). Takes (1 ∷ bytes) (side y.0) y.1 × FitsSide y.0) (some_is made x a.2) (Takes-more 1 bytes a.0.0.0 a.0.1 t.0, t.1)
+    subst (λ (y : Side × List ℕ). Takes (1 ∷ bytes) (spelled_side y.0) y.1 × FitsSide y.0) (some_is made x a.2) (Takes-more 1 bytes a.0.0.0 a.0.1 t.0, t.1)
 side_takes (suc (suc b) ∷ bytes) x fits e = absurd cc
 
-pub side_again : (s : Side) (rest : List ℕ) → FitsSide s → side_at (side s ++ rest) ≡ Some (s, rest)
+pub side_again : (s : Side) (rest : List ℕ) → FitsSide s → side_at (spelled_side s ++ rest) ≡ Some (s, rest)
 unfolding side_at
 side_again (Fold v) rest h = rw (number_again w64 (2 ^ 64) wide64 v rest h) refl
 side_again (Below b) rest h = rw (hash_again b rest h) refl
@@ -186,7 +186,7 @@ text_is bytes name e = met_some (is_utf8 bytes) bytes name e
 pub named_takes : (bytes : List ℕ) (x : List ℕ × List ℕ) → IsBytes bytes → named_at bytes ≡ Some x → Takes bytes (named x.0) x.1 × IsUtf8 x.0
 unfolding named_at
 named_takes bytes x fits e =
-    let a = bind_some (byte_at bytes) (λ len. cond (ltb (length len.1) len.0) None (text_in (take len.0 len.1) >>= λ name. Some (name, drop len.0 len.1))) x e in
+    let a = bind_some (read_byte bytes) (λ len. cond (ltb (length len.1) len.0) None (text_in (take len.0 len.1) >>= λ name. Some (name, drop len.0 len.1))) x e in
     let n = a.0.0 in
     let r = a.0.1 in
     let t = byte_takes bytes a.0 fits a.1 in

@@ -31,9 +31,9 @@ abbrev pub number_at : Width → List ℕ → Option (ℕ × List ℕ)
 number_at w bytes = if nat_lt (length bytes) (byte_len w) then None else Some (from_be_bytes w (take (byte_len w) bytes), drop (byte_len w) bytes)
 
 -- one byte
-abbrev pub byte_at : List ℕ → Option (ℕ × List ℕ)
-byte_at [] = None
-byte_at (b ∷ rest) = Some (b, rest)
+abbrev pub read_byte : List ℕ → Option (ℕ × List ℕ)
+read_byte [] = None
+read_byte (b ∷ rest) = Some (b, rest)
 
 -- a hash: 32 bytes
 unfoldable pub hash_at : List ℕ → Option (Hash32 × List ℕ)
@@ -68,7 +68,7 @@ text_in bytes = if is_utf8 bytes then Some bytes else None
 -- a text, behind the byte that says how long it is
 unfoldable pub named_at : List ℕ → Option (List ℕ × List ℕ)
 named_at bytes = do
-  len ← byte_at bytes
+  len ← read_byte bytes
   if nat_lt (length len.1) len.0 then None else (text_in (take len.0 len.1) >>= λ name. Some (name, drop len.0 len.1))
 
 -- a directory's or a file's, by its kind
@@ -80,8 +80,8 @@ body_at kind bytes =
     else None
 
 -- the fields of an entry of this kind
-unfoldable pub entry_at : ℕ → List ℕ → Option (EntryFields × List ℕ)
-entry_at kind bytes = do
+unfoldable pub read_entry : ℕ → List ℕ → Option (EntryFields × List ℕ)
+read_entry kind bytes = do
   id ← number_at w64 bytes
   name ← named_at id.1
   left ← link_at name.1
@@ -93,7 +93,7 @@ entry_at kind bytes = do
 unfoldable pub part_at : List ℕ → Option (PartFields × List ℕ)
 part_at bytes = do
   file ← number_at w64 bytes
-  level ← byte_at file.1
+  level ← read_byte file.1
   index ← number_at w32 level.1
   low ← side_at index.1
   high ← side_at low.1

@@ -31,13 +31,13 @@ pub record IsFileName (name : List ℕ) : Type 0 where
   pub bytes : IsTrue (list_all in_name name)
 
 -- where a link is there, it leads to an entry that has a name
-abbrev pub IsLinked : Option Link → Type 0
-IsLinked None = Unit {0}
-IsLinked (Some l) = 2 ≤ l.id.0
+abbrev pub IsLinkToNamed : Option Link → Type 0
+IsLinkToNamed None = Unit {0}
+IsLinkToNamed (Some l) = 2 ≤ l.id.0
 
 -- a directory's link inside leads to a named entry; a file isn't too long
 abbrev pub IsBody : Body → Type 0
-IsBody (Dir top) = IsLinked top
+IsBody (Dir top) = IsLinkToNamed top
 IsBody (File size counter versions) = size ≤ most_length
 
 -- this is a directory
@@ -56,8 +56,8 @@ pub record IsRoot (e : EntryFields) : Type 0 where
 pub record IsEntry (e : EntryFields) : Type 0 where
   pub root : e.id.0 < 2 → IsRoot e
   pub name : 2 ≤ e.id.0 → IsFileName e.name
-  pub left : IsLinked e.left
-  pub right : IsLinked e.right
+  pub left : IsLinkToNamed e.left
+  pub right : IsLinkToNamed e.right
   pub body : IsBody e.body
 
 -- all versions on this side are equal
@@ -66,10 +66,10 @@ IsFold (Fold v) = Unit {0}
 IsFold (Below h) = ⊥
 
 -- two sides that aren't folds of one version
-abbrev pub Differ : Side → Side → Type 0
-Differ (Fold v) (Fold w) = v ≢ w
-Differ (Fold v) (Below h) = Unit {0}
-Differ (Below h) other = Unit {0}
+abbrev pub AreUnequalSides : Side → Side → Type 0
+AreUnequalSides (Fold v) (Fold w) = v ≢ w
+AreUnequalSides (Fold v) (Below h) = Unit {0}
+AreUnequalSides (Below h) other = Unit {0}
 
 -- a part of a version tree: at level 1 its halves are single places
 pub record IsPart (p : PartFields) : Type 0 where
@@ -78,4 +78,4 @@ pub record IsPart (p : PartFields) : Type 0 where
   pub height : p.level ≤ most_level
   pub index : p.index < 2 ^ (most_level - p.level)
   pub places : p.level ≡ 1 → IsFold p.low × IsFold p.high
-  pub split : Differ p.low p.high
+  pub split : AreUnequalSides p.low p.high

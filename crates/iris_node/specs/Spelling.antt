@@ -16,23 +16,23 @@ link None = 0 ∷ []
 link (Some l) = 1 ∷ (to_be_bytes w64 l.id.0 ++ (l.hash.0 ++ to_be_bytes w64 l.blocks))
 
 -- a side: a byte 0 and the version of all its places, or a byte 1 and the hash of the part below
-abbrev pub side : Side → List ℕ
-side (Fold version) = 0 ∷ to_be_bytes w64 version
-side (Below hash) = 1 ∷ hash.0
+abbrev pub spelled_side : Side → List ℕ
+spelled_side (Fold version) = 0 ∷ to_be_bytes w64 version
+spelled_side (Below hash) = 1 ∷ hash.0
 
 -- a name: a byte for its length, and its bytes
 abbrev pub named : List ℕ → List ℕ
 named name = length name ∷ name
 
 -- a directory is of kind 1, a file of kind 2
-abbrev pub kind : Body → ℕ
-kind (Dir top) = 1
-kind (File size counter versions) = 2
+abbrev pub kind_byte : Body → ℕ
+kind_byte (Dir top) = 1
+kind_byte (File size counter versions) = 2
 
 -- a directory's link to what is inside; a file's length, counter and side of all versions
 abbrev pub body : Body → List ℕ
 body (Dir top) = link top
-body (File size counter versions) = to_be_bytes w64 size ++ (to_be_bytes w64 counter ++ side versions)
+body (File size counter versions) = to_be_bytes w64 size ++ (to_be_bytes w64 counter ++ spelled_side versions)
 
 -- the format of an entry's record
 abbrev pub entry_format : EntryFields → ℕ
@@ -43,14 +43,14 @@ abbrev pub part_format : PartFields → ℕ
 part_format p = 1
 
 -- an entry, without its format and kind
-abbrev pub entry : EntryFields → List ℕ
-entry e = to_be_bytes w64 e.id.0 ++ (named e.name ++ (link e.left ++ (link e.right ++ body e.body)))
+abbrev pub spelled_entry : EntryFields → List ℕ
+spelled_entry e = to_be_bytes w64 e.id.0 ++ (named e.name ++ (link e.left ++ (link e.right ++ body e.body)))
 
 -- a part, without its format and kind
 abbrev pub part : PartFields → List ℕ
-part p = to_be_bytes w64 p.file.0 ++ (p.level ∷ (to_be_bytes w32 p.index ++ (side p.low ++ side p.high)))
+part p = to_be_bytes w64 p.file.0 ++ (p.level ∷ (to_be_bytes w32 p.index ++ (spelled_side p.low ++ spelled_side p.high)))
 
 -- the record of a node; a part is of kind 3
 unfoldable pub spelling : Node → List ℕ
-spelling (Entry e) = entry_format e ∷ kind e.body ∷ entry e
+spelling (Entry e) = entry_format e ∷ kind_byte e.body ∷ spelled_entry e
 spelling (Part p) = part_format p ∷ 3 ∷ part p

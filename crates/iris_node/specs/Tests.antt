@@ -30,13 +30,13 @@ is_body (Dir top) = is_linked top
 is_body (File size counter versions) = nat_le size most_length
 
 -- this is a directory
-abbrev pub is_dir : Body → Bool
-is_dir (Dir top) = true
-is_dir (File size counter versions) = false
+abbrev pub is_directory_body : Body → Bool
+is_directory_body (Dir top) = true
+is_directory_body (File size counter versions) = false
 
 -- a directory without a name, that stands in no directory
 abbrev pub is_root : EntryFields → Bool
-is_root e = (length e.name == 0) && (is_none e.left && (is_none e.right && is_dir e.body))
+is_root e = (length e.name == 0) && (is_none e.left && (is_none e.right && is_directory_body e.body))
 
 -- a root by its id, or an entry with a name
 abbrev pub is_placed : EntryFields → Bool

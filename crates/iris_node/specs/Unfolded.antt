@@ -87,10 +87,10 @@ node_of (Even version) = None
 node_of (Stored version bytes) = None
 
 -- a record of a node that may be there
-abbrev pub spelled : Option Node → List ℕ
-spelled None = []
-spelled (Some n) = spelling n
+abbrev pub spelled_node : Option Node → List ℕ
+spelled_node None = []
+spelled_node (Some n) = spelling n
 
 -- the record of an entry or a part
 abbrev pub node_record : Unfolded → List ℕ
-node_record u = spelled (node_of u)
+node_record u = spelled_node (node_of u)

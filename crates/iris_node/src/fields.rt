@@ -3,14 +3,14 @@
 ghost use Rattle.std.specs.Prelude.{◌≡◌, List, ℕ, length};
 ghost use Rattle.std.specs.Int.{w32, w64};
 ghost use Rattle.iris_node.specs.Fields.{EntryFields, PartFields};
-ghost use Rattle.iris_node.specs.Reading.{Reads, id_of, number_at, hash_at, link_at, side_at, named_at, body_at, entry_at, byte_at, part_at, text_in};
+ghost use Rattle.iris_node.specs.Reading.{Reads, id_of, number_at, hash_at, link_at, side_at, named_at, body_at, read_entry, read_byte, part_at, text_in};
 ghost use Rattle.iris_node.specs.Views.{entry_read, part_read};
 
 use crate::node::{Body, Link, Side};
 use iris_name::{FileId, Hash32};
 
 fn byte_of(bytes: &[u8]) -> Option<(u8, &[u8])>
-    ensures { Reads (λ x. (x.0, x.1.now)) result (byte_at bytes.now) }
+    ensures { Reads (λ x. (x.0, x.1.now)) result (read_byte bytes.now) }
 {
     match bytes {
         [] => None,
@@ -152,9 +152,9 @@ pub(crate) struct EntryRead<'a> {
 }
 
 /// The fields of an entry of this kind, and the bytes after them.
-#[tactic(auto, unfolding(crate::specs::Reading::entry_at))]
+#[tactic(auto, unfolding(crate::specs::Reading::read_entry))]
 pub(crate) fn entry_of(kind: u8, bytes: &[u8]) -> Option<(EntryRead<'_>, &[u8])>
-    ensures { Reads (λ x. (entry_read x.0, x.1.now)) result (entry_at kind bytes.now) }
+    ensures { Reads (λ x. (entry_read x.0, x.1.now)) result (read_entry kind bytes.now) }
 {
     let (id, rest) = u64_of(bytes)?;
     let (name, rest) = named_of(rest)?;

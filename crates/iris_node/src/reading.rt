@@ -5,7 +5,7 @@ ghost use Rattle.std.specs.Str.{IsUtf8};
 ghost use Rattle.iris_node.specs.Nodes.{IsNode};
 ghost use Rattle.iris_node.specs.Spelling.{spelling};
 ghost use Rattle.iris_node.specs.Reading.{Reads};
-ghost use Rattle.iris_node.specs.Whole.{entry_in, part_in, node_in};
+ghost use Rattle.iris_node.specs.Whole.{whole_entry, whole_part, whole_node};
 ghost use Rattle.iris_node.specs.declared.node.Node as nodes;
 
 use crate::fields::{entry_of, part_of};
@@ -20,9 +20,9 @@ pub const FORMAT: u8 = 1;
 /// The kind of a part's record.
 pub const PART: u8 = 3;
 
-#[tactic(auto, unfolding(crate::specs::Whole::part_in), using(crate::proofs::Deciding::part_kept))]
+#[tactic(auto, unfolding(crate::specs::Whole::whole_part), using(crate::proofs::Deciding::part_kept))]
 fn part_node(format: u8, bytes: &[u8]) -> Option<PartNode>
-    ensures { Reads (λ p. p) result (part_in format bytes.now) }
+    ensures { Reads (λ p. p) result (whole_part format bytes.now) }
 {
     let (part, rest) = part_of(bytes)?;
     if format != FORMAT || !rest.is_empty() || !is_part(&part) {
@@ -44,14 +44,14 @@ fn text(alloc: Global, name: &str) -> Result<Text, NoMemory>
     Ok(Text::of(String::from_str(alloc, name)?))
 }
 
-#[tactic(auto, unfolding(crate::specs::Whole::entry_in))]
+#[tactic(auto, unfolding(crate::specs::Whole::whole_entry))]
 fn entry_node(
     alloc: Global,
     format: u8,
     kind: u8,
     bytes: &[u8],
 ) -> Result<Option<EntryNode>, NoMemory>
-    ensures { IfOk result (λ o. Reads (λ e. e) o (entry_in format kind bytes.now)) }
+    ensures { IfOk result (λ o. Reads (λ e. e) o (whole_entry format kind bytes.now)) }
 {
     let Some((entry, rest)) = entry_of(kind, bytes) else {
         return Ok(None);
@@ -69,9 +69,9 @@ fn entry_node(
     }))
 }
 
-#[tactic(auto, unfolding(crate::specs::Whole::node_in))]
+#[tactic(auto, unfolding(crate::specs::Whole::whole_node))]
 fn node_of(alloc: Global, bytes: &[u8]) -> Result<Option<Node>, NoMemory>
-    ensures { IfOk result (λ o. Reads (λ n. n) o (node_in bytes.now)) }
+    ensures { IfOk result (λ o. Reads (λ n. n) o (whole_node bytes.now)) }
 {
     match bytes {
         [format, PART, rest @ ..] => match part_node(*format, rest) {

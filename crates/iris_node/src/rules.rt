@@ -3,7 +3,7 @@
 ghost use Rattle.std.specs.Prelude.{◌≡◌, ◌↔◌, ◌≤◌, ◌-◌, ◌^◌, IsTrue};
 ghost use Rattle.std.specs.List.{list_all};
 ghost use Rattle.iris_node.specs.Rules.{most_level, in_name, IsFileName};
-ghost use Rattle.iris_node.specs.Tests.{is_dots, is_file_name, is_linked, is_body, is_dir, is_root, is_placed, is_entry, is_fold, differ, is_part};
+ghost use Rattle.iris_node.specs.Tests.{is_dots, is_file_name, is_linked, is_body, is_directory_body, is_root, is_placed, is_entry, is_fold, differ, is_part};
 ghost use Rattle.iris_node.specs.Views.{entry_read, part_read};
 
 use crate::fields::{EntryRead, PartRead};
@@ -54,7 +54,7 @@ fn is_body(body: &Body) -> bool
 }
 
 fn is_dir(body: &Body) -> bool
-    ensures { result ≡ is_dir body.now }
+    ensures { result ≡ is_directory_body body.now }
 {
     match body {
         Body::Dir { .. } => true,

@@ -4,7 +4,7 @@ ghost use Rattle.std.specs.Prelude.{◌≡◌, ◌≤◌, ◌+◌, ◌∷◌, �
 ghost use Rattle.sha2.specs.Sha256.{sha256};
 ghost use Rattle.iris_node.specs.Nodes.{IsNode, FitsLink, FitsSide, FitsBody, FitsEntry, FitsPart};
 ghost use Rattle.iris_node.specs.Rules.{IsEntry, IsPart};
-ghost use Rattle.iris_node.specs.Spelling.{link, side, kind, body, entry_format, part_format, entry, part, spelling};
+ghost use Rattle.iris_node.specs.Spelling.{link, spelled_side, kind_byte, body, entry_format, part_format, spelled_entry, part, spelling};
 
 use crate::node::{Body, EntryNode, Link, Node, PartNode, Side};
 use crate::reading::{FORMAT, PART};
@@ -40,7 +40,7 @@ fn put_link(sheet: &mut Sheet, l: &Option<Link>)
 
 fn put_side(sheet: &mut Sheet, s: &Side)
     requires { length sheet.old + 33 ≤ RECORD_MOST }
-    ensures bytes { sheet.new ≡ sheet.old ++ side s.now }
+    ensures bytes { sheet.new ≡ sheet.old ++ spelled_side s.now }
     ensures len { length sheet.new ≤ length sheet.old + 33 }
     ensures fits { FitsSide s.now }
 {
@@ -57,7 +57,7 @@ fn put_side(sheet: &mut Sheet, s: &Side)
 }
 
 fn kind_of(b: &Body) -> u8
-    ensures { result ≡ kind b.now }
+    ensures { result ≡ kind_byte b.now }
 {
     match b {
         Body::Dir { .. } => 1,
@@ -88,7 +88,7 @@ fn put_body(sheet: &mut Sheet, b: &Body)
 // An entry's record; its name has at most 255 bytes.
 fn put_entry(sheet: &mut Sheet, e: &EntryNode)
     requires { length sheet.old ≡ 0 }
-    ensures bytes { sheet.new ≡ sheet.old ++ (entry_format e.now ∷ kind e.now.body ∷ entry e.now) }
+    ensures bytes { sheet.new ≡ sheet.old ++ (entry_format e.now ∷ kind_byte e.now.body ∷ spelled_entry e.now) }
     ensures fits { IsEntry e.now × FitsEntry e.now }
 {
     let name = e.name.as_str().as_bytes();

@@ -4,8 +4,8 @@ use Rattle.iris_name.specs.declared.name.Name.{Name}
 use Rattle.iris_name.specs.declared.name.Name.TheVariants as name
 use Rattle.iris_node.specs.Unfolded.{Unfolded, Absent, Folder, Leaf, Even, Split, Stored, id_of}
 use Rattle.iris_shape.specs.Treap.{Treap, Empty, Over, Each, Every, way}
-use Rattle.iris_dirtree.specs.Rows.{Row, Content, Directory, File, entry_of, entries, refilled}
-use Rattle.iris_dirtree.specs.Ways.{Any, along, before, is_named}
+use Rattle.iris_dirtree.specs.Rows.{Row, Content, Directory, File, entry_of, unfolded_rows, refilled}
+use Rattle.iris_dirtree.specs.Ways.{Any, along, is_row_before, has_name}
 
 -- what an entry is by itself, and what lies beside it
 record Parts : Type 0 where
@@ -50,19 +50,19 @@ differ h = cc
 
 module _ (f : Unfolded → Unfolded) (bare : f Absent ≡ Absent)
     (keeps : (id : ℕ) (label : List ℕ) (x : Content) (l m : Unfolded) → parts (f (entry_of id label x l m)) ≡ record { there = true; id = id; label = label; less = f l; more = f m }) where
-  alike_by : (t u : Treap Row) → entries t ≡ f (entries u) → Alike t u
+  alike_by : (t u : Treap Row) → unfolded_rows t ≡ f (unfolded_rows u) → Alike t u
   alike_by Empty Empty h = tt
-  alike_by Empty (Over z k n) h = differ (sym (ap (λ v. v.there) (keeps z.id z.name z.content (entries k) (entries n))) ∙ (sym (ap (λ u. (parts u).there) h) ∙ of_absent))
-  alike_by (Over y l m) Empty h = differ (sym (ap (λ v. v.there) (of_row y.id y.name y.content (entries l) (entries m))) ∙ (ap (λ u. (parts u).there) (h ∙ bare) ∙ of_absent))
+  alike_by Empty (Over z k n) h = differ (sym (ap (λ v. v.there) (keeps z.id z.name z.content (unfolded_rows k) (unfolded_rows n))) ∙ (sym (ap (λ u. (parts u).there) h) ∙ of_absent))
+  alike_by (Over y l m) Empty h = differ (sym (ap (λ v. v.there) (of_row y.id y.name y.content (unfolded_rows l) (unfolded_rows m))) ∙ (ap (λ u. (parts u).there) (h ∙ bare) ∙ of_absent))
   alike_by (Over y l m) (Over z k n) h =
-      let e : record { there = true; id = y.id; label = y.name; less = entries l; more = entries m } ≡ record { there = true; id = z.id; label = z.name; less = f (entries k); more = f (entries n) }
-      = sym (of_row y.id y.name y.content (entries l) (entries m)) ∙ (ap parts h ∙ keeps z.id z.name z.content (entries k) (entries n)) in
+      let e : record { there = true; id = y.id; label = y.name; less = unfolded_rows l; more = unfolded_rows m } ≡ record { there = true; id = z.id; label = z.name; less = f (unfolded_rows k); more = f (unfolded_rows n) }
+      = sym (of_row y.id y.name y.content (unfolded_rows l) (unfolded_rows m)) ∙ (ap parts h ∙ keeps z.id z.name z.content (unfolded_rows k) (unfolded_rows n)) in
       (ap (λ v. v.id) e, ap (λ v. v.label) e, alike_by l k (ap (λ v. v.less) e), alike_by m n (ap (λ v. v.more) e))
 
-pub alike_same : (t u : Treap Row) → entries t ≡ entries u → Alike t u
+pub alike_same : (t u : Treap Row) → unfolded_rows t ≡ unfolded_rows u → Alike t u
 alike_same t u h = alike_by (λ v. v) refl (λ id label x l m. of_row id label x l m) t u h
 
-pub alike_refilled : (d : ℕ) (i : Unfolded) (t u : Treap Row) → entries t ≡ refilled d i (entries u) → Alike t u
+pub alike_refilled : (d : ℕ) (i : Unfolded) (t u : Treap Row) → unfolded_rows t ≡ refilled d i (unfolded_rows u) → Alike t u
 alike_refilled d i t u h = alike_by (refilled d i) refl (λ id label x l m. of_refilled d i id label x l m) t u h
 
 -- one of these rows has the name
@@ -75,15 +75,15 @@ picked n false true x y z w f g h = f h
 picked n false false x y z w f g h = g h
 
 -- the same rows are met in both on going down towards a name
-pub any_alike : (label : List ℕ) (n : Name) (t u : Treap Row) → Alike t u → AnyNamed n (along (before label) (is_named label) t) → AnyNamed n (along (before label) (is_named label) u)
+pub any_alike : (label : List ℕ) (n : Name) (t u : Treap Row) → Alike t u → AnyNamed n (along (is_row_before label) (has_name label) t) → AnyNamed n (along (is_row_before label) (has_name label) u)
 any_alike label n Empty Empty same h = h
 any_alike label n Empty (Over z k o) same h = absurd same
 any_alike label n (Over y l m) Empty same h = absurd same
 any_alike label n (Over y l m) (Over z k o) same h = elim h [
   | inl e ↦ inl (e ∙ ap (λ i. name.Entry (id_of i)) same.0)
   | inr a ↦
-      let s = picked n (is_named label y) (before label y) (along (before label) (is_named label) m) (along (before label) (is_named label) o) (along (before label) (is_named label) l) (along (before label) (is_named label) k) (any_alike label n m o same.3) (any_alike label n l k same.2) a in
-      inr (subst (λ v. AnyNamed n (cond (is_named label (record { id = z.id; name = v; content = z.content })) [] (cond (before label (record { id = z.id; name = v; content = z.content })) (along (before label) (is_named label) o) (along (before label) (is_named label) k)))) same.1 s)
+      let s = picked n (has_name label y) (is_row_before label y) (along (is_row_before label) (has_name label) m) (along (is_row_before label) (has_name label) o) (along (is_row_before label) (has_name label) l) (along (is_row_before label) (has_name label) k) (any_alike label n m o same.3) (any_alike label n l k same.2) a in
+      inr (subst (λ v. AnyNamed n (cond (has_name label (record { id = z.id; name = v; content = z.content })) [] (cond (is_row_before label (record { id = z.id; name = v; content = z.content })) (along (is_row_before label) (has_name label) o) (along (is_row_before label) (has_name label) k)))) same.1 s)
 ]
 
 ways : (n : Name) (a b : Bool) (x y z w : List Row) → (AnyNamed n x → AnyNamed n y) → (AnyNamed n z → AnyNamed n w) → AnyNamed n (cond a [] (cond b x z)) → AnyNamed n (cond b y w)

@@ -13,7 +13,7 @@ use Rattle.iris_plain.specs.declared.checks.Seen.{Seen}
 use Rattle.iris_plain.specs.declared.checks.Seen.TheVariants.{ADirectory}
 use Rattle.iris_paths.specs.declared.resolving.Found.{Found}
 use Rattle.iris_paths.specs.declared.resolving.Found.TheVariants.{At, Missing, ThroughFile}
-use Rattle.iris_paths.specs.Resolving.{root, Leads, Resolves, standing_at, met_by, here, file, none, onward}
+use Rattle.iris_paths.specs.Resolving.{root_id, Leads, Resolves, standing_at, met_by, here, file, none, onward}
 use Rattle.iris_paths.specs.Pictured.{Pictured, IsInSight, AreInSight}
 use Rattle.iris_paths.specs.Following.{Onward, Follows, standing_seen, met_seen}
 use Rattle.iris_paths.proofs.Named.{named_id}
@@ -62,7 +62,7 @@ module _ (key : List ℕ) (met : List (List ℕ) → Seen) (d : Drafted) (c : Re
         (subst (λ g. Resolves new key names g) e f.1, f.2 ∙ ap (met_by new) e)
 
     pub come_low : Low new r
-    come_low = low new key root root names r comes.0 (λ _. pic.top)
+    come_low = low new key root_id root_id names r comes.0 (λ _. pic.top)
 
     pub meets_seen : AreInSight d c r → met names ≡ met_seen d c r
     meets_seen sight = comes.1 ∙ met_so r sight come_low

@@ -11,7 +11,7 @@ use Rattle.iris_cache.specs.declared.held.Short.TheVariants.{Need, NoMemory}
 use Rattle.iris_cache.specs.Resident.{Resident}
 use Rattle.iris_cache.specs.Drafted.{Drafted}
 use Rattle.iris_plain.specs.declared.checks.Seen.{Seen}
-use Rattle.iris_plain.specs.Checks.{is_dir, size_of}
+use Rattle.iris_plain.specs.Checks.{is_directory_seen, size_of}
 use Rattle.iris_plain.specs.Steps.{Judged}
 use Rattle.iris_dirtree.specs.Rows.{Row, row_name, HasRows}
 use Rattle.iris_dirtree.specs.Ways.{following, along_page}
@@ -30,8 +30,8 @@ refused o e Right h = subst (λ x. Judged x Right (Plain e)) (sym h) refl
 pub accepted : (o : Option PlainError) (reply : Reply) (Right : Type 0) → o ≡ None → Right → Judged o Right reply
 accepted o reply Right h r = subst (λ x. Judged x Right reply) (sym h) r
 
-pub stat_is : (b : Bool) (n : ℕ) (s t : Seen) → b ≡ is_dir s → n ≡ size_of s → t ≡ s → Stat b n ≡ Stat (is_dir t) (size_of t)
-stat_is b n s t p q e = ap (λ x. Stat x n) (p ∙ ap is_dir (sym e)) ∙ ap (λ y. Stat (is_dir t) y) (q ∙ ap size_of (sym e))
+pub stat_is : (b : Bool) (n : ℕ) (s t : Seen) → b ≡ is_directory_seen s → n ≡ size_of s → t ≡ s → Stat b n ≡ Stat (is_directory_seen t) (size_of t)
+stat_is b n s t p q e = ap (λ x. Stat x n) (p ∙ ap is_directory_seen (sym e)) ∙ ap (λ y. Stat (is_directory_seen t) y) (q ∙ ap size_of (sym e))
 
 -- a plan that meets more, and speaks of fewer tables, lacks what another lacks
 pub lack_short : (key : List ℕ) (also also2 : Shown → Shown → Type 0) (reached reached2 : Shown → Name → Type 0) (d : Drafted) (c : Resident) (e : Short)

@@ -7,7 +7,7 @@ use Rattle.iris_name.specs.declared.name.Name.TheVariants as name
 use Rattle.iris_node.specs.declared.node.Body.{Body}
 use Rattle.iris_node.specs.Fields.{EntryFields}
 use Rattle.iris_node.specs.Trees.{Shown, IsTree, node_name}
-use Rattle.iris_shape.specs.Treap.{put}
+use Rattle.iris_shape.specs.Treap.{rows_with}
 use Rattle.iris_cache.specs.declared.held.Short.{Short}
 use Rattle.iris_cache.specs.declared.held.Short.TheVariants.{Need, NoMemory}
 use Rattle.iris_cache.specs.Resident.{Resident}
@@ -17,14 +17,14 @@ use Rattle.iris_plain.specs.declared.checks.Seen.{Seen}
 use Rattle.iris_plain.specs.Routes.{parent, last}
 use Rattle.iris_dirtree.specs.Rows.{Row, HasRows, Rearranges, IsCountable}
 use Rattle.iris_dirtree.specs.Hands.{Holding, IsRowNode, HoldsTrue, below_row}
-use Rattle.iris_dirtree.specs.Ways.{before, along_name}
+use Rattle.iris_dirtree.specs.Ways.{is_row_before, along_name}
 use Rattle.iris_dirtree.specs.Needs.{ListedInHand, IsShort, IsMet}
 use Rattle.iris_paths.specs.declared.resolving.Found.TheVariants.{At}
 use Rattle.iris_paths.specs.declared.entering.Place.TheVariants.{In}
 use Rattle.iris_paths.specs.Resolving.{Resolves}
 use Rattle.iris_paths.specs.Pictured.{Pictured, IsOnTrail, IsPathShort}
-use Rattle.iris_paths.specs.Making.{fresh, fresh_body, new_row, IsNew}
-use Rattle.iris_paths.specs.Entering.{IsPlace}
+use Rattle.iris_paths.specs.Making.{empty_content, fresh_body, new_row, IsNew}
+use Rattle.iris_paths.specs.Entering.{IsDestination}
 
 -- the node of a new row
 abbrev pub new_entry : FileId → List ℕ → Bool → EntryFields
@@ -44,13 +44,13 @@ nothing_held id false m h k = k
 pub new_holds : (old : Shown) (c : Resident) (id : FileId) (label : List ℕ) (dir : Bool) → HoldsTrue old c (new_entry id label dir)
 new_holds old c id label dir = λ m h k. absurd (nothing_held id dir m h k)
 
-nothing_below : (dir : Bool) (n : Name) → node_name (below_row (fresh dir)) ≡ Some n → ⊥
+nothing_below : (dir : Bool) (n : Name) → node_name (below_row (empty_content dir)) ≡ Some n → ⊥
 nothing_below true n e = cc
 nothing_below false n e = cc
 
 -- a cache with a draft holds a new row: nothing is below it
 pub holds_new : (old new : Shown) (id : FileId) (label : List ℕ) (dir : Bool) (d : Drafted) (c : Resident) → new (name.Entry id) ≡ None → Drafts old new d c → Holding old new (Some (new_row id.0 label dir)) d c
-holds_new old new id label dir d c fresh p = record {
+holds_new old new id label dir d c empty_content p = record {
   before = p.before;
   nodes = p.nodes;
   hashes = p.hashes;
@@ -60,39 +60,39 @@ holds_new old new id label dir d c fresh p = record {
   gone = p.gone;
   away = p.away;
   resident = p.resident;
-  out = fresh;
+  out = empty_content;
 }
 
 pub new_in_hand : (key : List ℕ) (met : List (List ℕ) → Seen) (d : Drafted) (c : Resident) (old new : Shown) (id folder : FileId) (label : List ℕ) (dir : Bool) (rows : List Row)
     → Pictured key met d c old new → IsNew id old new → HasRows new key folder rows → ListedInHand key folder (new_row id.0 label dir) d c old new rows
-new_in_hand key met d c old new id folder label dir rows pic fresh has = record {
+new_in_hand key met d c old new id folder label dir rows pic empty_content has = record {
   was = pic.was;
-  rooted = fresh.0.0;
-  formed = fresh.0.1;
+  rooted = empty_content.0.0;
+  formed = empty_content.0.1;
   is = pic.is;
-  hand = holds_new old new id label dir d c fresh.1 pic.drafts;
+  hand = holds_new old new id label dir d c empty_content.1 pic.drafts;
   rows_are = has;
 }
 
 -- two ways to a path come to one
-pub one_end : (key : List ℕ) (met : List (List ℕ) → Seen) (names : List (List ℕ)) (d : Drafted) (c : Resident) (old new : Shown) (dir : FileId) → IsPlace d c names (In dir) → Pictured key met d c old new
+pub one_end : (key : List ℕ) (met : List (List ℕ) → Seen) (names : List (List ℕ)) (d : Drafted) (c : Resident) (old new : Shown) (dir : FileId) → IsDestination d c names (In dir) → Pictured key met d c old new
     → (folder above : FileId) → Resolves new key (parent names) (At folder above) → folder ≡ dir
 one_end key met names d c old new dir place pic folder above r =
     let at = place.2 key met old new pic in
     at.one folder above r
 
 -- what an insertion of a new row makes, and what it lacks
-module _ (key : List ℕ) (d : Drafted) (c : Resident) (names : List (List ℕ)) (id dir : FileId) (isdir : Bool) (place : IsPlace d c names (In dir)) where
+module _ (key : List ℕ) (d : Drafted) (c : Resident) (names : List (List ℕ)) (id dir : FileId) (isdir : Bool) (place : IsDestination d c names (In dir)) where
   pub makes : (e : Drafted) (node : EntryFields) → node ≡ new_entry id (last names) isdir
-      → ((old new made : Shown) (x : Row) (rows : List Row) → ListedInHand key dir x d c old new rows → IsRowNode x node → HoldsTrue old c node → IsTree made → IsCountable made → Rearranges new made key dir rows (put (before x.name) x rows) → Drafts old made e c)
+      → ((old new made : Shown) (x : Row) (rows : List Row) → ListedInHand key dir x d c old new rows → IsRowNode x node → HoldsTrue old c node → IsTree made → IsCountable made → Rearranges new made key dir rows (rows_with (is_row_before x.name) x rows) → Drafts old made e c)
       → (met : List (List ℕ) → Seen) (old new made : Shown) (folder above : FileId) (rows : List Row) → Pictured key met d c old new → IsNew id old new → Resolves new key (parent names) (At folder above) → HasRows new key folder rows → IsTree made → IsCountable made
-      → Rearranges new made key folder rows (put (before (last names)) (new_row id.0 (last names) isdir) rows) → Drafts old made e c
-  makes e node is inserted met old new made folder above rows pic fresh leads has tree countable arranges =
+      → Rearranges new made key folder rows (rows_with (is_row_before (last names)) (new_row id.0 (last names) isdir) rows) → Drafts old made e c
+  makes e node is inserted met old new made folder above rows pic empty_content leads has tree countable arranges =
       let same = one_end key met names d c old new dir place pic folder above leads in
       let x = new_row id.0 (last names) isdir in
-      inserted old new made x rows (new_in_hand key met d c old new id dir (last names) isdir rows pic fresh (subst (λ i. HasRows new key i rows) same has))
+      inserted old new made x rows (new_in_hand key met d c old new id dir (last names) isdir rows pic empty_content (subst (λ i. HasRows new key i rows) same has))
       (subst (IsRowNode x) (sym is) (new_like id (last names) isdir)) (subst (HoldsTrue old c) (sym is) (new_holds old c id (last names) isdir)) tree countable
-      (subst (λ i. Rearranges new made key i rows (put (before (last names)) x rows)) same arranges)
+      (subst (λ i. Rearranges new made key i rows (rows_with (is_row_before (last names)) x rows)) same arranges)
 
   pub make_lacks : (label : List ℕ) (e : Short) → label ≡ last names → ((x : Row) → IsShort (ListedInHand key dir x d c) (along_name label key) d c dir e) → IsPathShort key (IsNew id) (IsOnTrail key names) d c e
   make_lacks label (Need n w) is short =

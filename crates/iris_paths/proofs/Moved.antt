@@ -16,11 +16,11 @@ use Rattle.std.specs.Option.{option_map}
 use Rattle.iris_node.specs.Local.{Local, FolderAt, LeafAt, SplitAt, local, entry_local}
 use Rattle.iris_node.specs.Trees.{Shown, IsTree}
 use Rattle.iris_node.specs.Unfolded.{Absent, id_of}
-use Rattle.iris_shape.specs.Treap.{put, without, treap}
+use Rattle.iris_shape.specs.Treap.{rows_with, rows_without, treap}
 use Rattle.iris_cache.specs.declared.held.Short.{Short}
 use Rattle.iris_cache.specs.declared.held.Short.TheVariants.{Need, NoMemory}
 use Rattle.iris_cache.specs.declared.draft.Change.{Change}
-use Rattle.iris_cache.specs.Resident.{Resident, held, IsSound}
+use Rattle.iris_cache.specs.Resident.{Resident, held_node, IsSound}
 use Rattle.iris_cache.specs.Drafted.{Drafted, drafted, seen, IsDraft}
 use Rattle.iris_cache.specs.Pictures.{Drafts}
 use Rattle.iris_plain.specs.declared.checks.Seen.{Seen}
@@ -29,18 +29,18 @@ use Rattle.iris_plain.specs.Checks.{unresolved, move_checks, no_place, then_erro
 use Rattle.iris_plain.specs.Routes.{parent, last, is_top, is_front}
 use Rattle.iris_dirtree.specs.Rows.{Row, Content, Directory, File, HasRows, Rearranges, IsCountable, entry_of, up}
 use Rattle.iris_dirtree.specs.Hands.{Holding, IsRowNode, HoldsTrue}
-use Rattle.iris_dirtree.specs.Ways.{Any, before, is_named, along_name}
+use Rattle.iris_dirtree.specs.Ways.{Any, is_row_before, has_name, along_name}
 use Rattle.iris_dirtree.specs.Needs.{Listed, ListedInHand, IsShort, IsMet}
 use Rattle.iris_dirtree.proofs.Owned.{seen_own}
 use Rattle.iris_paths.specs.declared.resolving.Found.{Found}
 use Rattle.iris_paths.specs.declared.resolving.Found.TheVariants.{At}
 use Rattle.iris_paths.specs.declared.entering.Place.TheVariants.{In, Not}
-use Rattle.iris_paths.specs.Resolving.{root, Leads, Resolves}
+use Rattle.iris_paths.specs.Resolving.{root_id, Leads, Resolves}
 use Rattle.iris_paths.specs.Pictured.{Pictured, IsOnTrail, IsPathLack, every, AreInSight}
 use Rattle.iris_paths.specs.Following.{Follows, standing_seen, met_seen}
-use Rattle.iris_paths.specs.Entering.{IsPlace, Welcomes}
+use Rattle.iris_paths.specs.Entering.{IsDestination, Welcomes}
 use Rattle.iris_paths.specs.Making.{IsWhole}
-use Rattle.iris_paths.specs.Moving.{IsMovable, renamed, Takes, Puts, IsSource, IsMoved, IsCarryShort, IsMoveShort}
+use Rattle.iris_paths.specs.Moving.{IsMovable, renamed_row, Takes, Puts, IsSource, IsMoved, IsCarryShort, IsMoveShort}
 use Rattle.iris_dirtree.proofs.Likes.{placed_rows}
 use Rattle.iris_paths.proofs.Alike.{AnyNamed, any_alike}
 use Rattle.iris_paths.proofs.Reach.{same_reach, other_alike, live_along, live_near, live_folder}
@@ -124,10 +124,10 @@ like_by id label other x i b h anew = sym (row_relabel id label anew x) ∙ (ap 
 abbrev pub alone : EntryFields → List ℕ → EntryFields
 alone e label = record { id = e.id; name = label; left = None; right = None; body = e.body }
 
-like_renamed : (x : Row) (e : EntryFields) (label : List ℕ) → IsRowNode x e → IsRowNode (renamed label x) (alone e label)
+like_renamed : (x : Row) (e : EntryFields) (label : List ℕ) → IsRowNode x e → IsRowNode (renamed_row label x) (alone e label)
 like_renamed x e label h = like_by x.id x.name e.name x.content e.id e.body h label
 
-holds_renamed : (old new : Shown) (x : Row) (label : List ℕ) (d : Drafted) (c : Resident) → Holding old new (Some x) d c → Holding old new (Some (renamed label x)) d c
+holds_renamed : (old new : Shown) (x : Row) (label : List ℕ) (d : Drafted) (c : Resident) → Holding old new (Some x) d c → Holding old new (Some (renamed_row label x)) d c
 holds_renamed old new x label d c h = record {
   before = h.before;
   nodes = h.nodes;
@@ -141,10 +141,10 @@ holds_renamed old new x label d c h = record {
   out = h.out;
 }
 
-in_hand : (key : List ℕ) (into : FileId) (label : List ℕ) (x : Row) (others : List Row) (old mid : Shown) (d : Drafted) (c : Resident) → IsTree old → IsWhole old → IsTree mid → Holding old mid (Some x) d c → HasRows mid key into others → ListedInHand key into (renamed label x) d c old mid others
+in_hand : (key : List ℕ) (into : FileId) (label : List ℕ) (x : Row) (others : List Row) (old mid : Shown) (d : Drafted) (c : Resident) → IsTree old → IsWhole old → IsTree mid → Holding old mid (Some x) d c → HasRows mid key into others → ListedInHand key into (renamed_row label x) d c old mid others
 in_hand key into label x others old mid d c was rooted is hand has = record { was = was; rooted = rooted.0; formed = rooted.1; is = is; hand = holds_renamed old mid x label d c hand; rows_are = has }
 
-unset_by : (d : Drafted) (c : Resident) (old new : Shown) (n : Name) (o : Option Change) → Drafts old new d c → drafted d n ≡ o → held c n ≡ None → IsSome (old n) → o ≡ None
+unset_by : (d : Drafted) (c : Resident) (old new : Shown) (n : Name) (o : Option Change) → Drafts old new d c → drafted d n ≡ o → held_node c n ≡ None → IsSome (old n) → o ≡ None
 unset_by d c old new n None p e absent lived = refl
 unset_by d c old new n (Some change) p e absent lived = elim (p.resident n change e) [ inl s ↦ cc | inr z ↦ cc ]
 
@@ -153,24 +153,24 @@ any_row = record { id = 0; name = []; content = Directory Absent }
 
 module _ (key : List ℕ) (out : FileId) (name : List ℕ) (into : FileId) (label : List ℕ) (d e : Drafted) (c : Resident) (entry : EntryFields)
     (removed : (old new made : Shown) (x : Row) (rows : List Row) → Listed key out d c old new rows → Any (λ r. r ≡ x) rows → x.name ≡ name → IsTree made → IsCountable made
-    → Rearranges new made key out rows (without (is_named name) rows) → Holding old made (Some x) e c × IsRowNode x entry × HoldsTrue old c entry) where
+    → Rearranges new made key out rows (rows_without (has_name name) rows) → Holding old made (Some x) e c × IsRowNode x entry × HoldsTrue old c entry) where
   taken : (old new mid : Shown) (x : Row) (rows : List Row) → IsTree old → IsTree new → Drafts old new d c → Takes key out name x rows new mid → Holding old mid (Some x) e c × IsRowNode x entry × HoldsTrue old c entry
   taken old new mid x rows was is drafts t = removed old new mid x rows (record { was = was; is = is; drafts = drafts; rows_are = t.has }) t.among t.named t.tree t.countable t.arranges
 
   pub carries : (f : Drafted) (node : EntryFields) → node ≡ alone entry label
-      → ((old new made : Shown) (x : Row) (rows : List Row) → ListedInHand key into x e c old new rows → IsRowNode x node → HoldsTrue old c node → IsTree made → IsCountable made → Rearranges new made key into rows (put (before x.name) x rows) → Drafts old made f c)
+      → ((old new made : Shown) (x : Row) (rows : List Row) → ListedInHand key into x e c old new rows → IsRowNode x node → HoldsTrue old c node → IsTree made → IsCountable made → Rearranges new made key into rows (rows_with (is_row_before x.name) x rows) → Drafts old made f c)
       → (old new mid made : Shown) (x : Row) (rows others : List Row) → IsTree old → IsTree new → Drafts old new d c → IsWhole old → Takes key out name x rows new mid → Puts key into label x others mid made → Drafts old made f c
   carries f node same inserted old new mid made x rows others was is drafts rooted t p =
       let h = taken old new mid x rows was is drafts t in
-      inserted old mid made (renamed label x) others (in_hand key into label x others old mid e c was rooted t.tree h.0 p.has)
-      (subst (IsRowNode (renamed label x)) (sym same) (like_renamed x entry label h.1)) (subst (HoldsTrue old c) (sym same) h.2) p.tree p.countable p.arranges
+      inserted old mid made (renamed_row label x) others (in_hand key into label x others old mid e c was rooted t.tree h.0 p.has)
+      (subst (IsRowNode (renamed_row label x)) (sym same) (like_renamed x entry label h.1)) (subst (HoldsTrue old c) (sym same) h.2) p.tree p.countable p.arranges
 
   pub carry_lacks : (short : Short) (called : List ℕ) → called ≡ label → ((x : Row) → IsShort (ListedInHand key into x e c) (along_name called key) e c into short) → IsCarryShort key out name into label d c short
   carry_lacks (Need n w) called same lacks = inr (record {
     absent = (lacks any_row).absent;
     needed = λ old new mid x rows others was is drafts rooted t has.
         let h = taken old new mid x rows was is drafts t in
-        let l = lacks (renamed label x) in
+        let l = lacks (renamed_row label x) in
         let k = l.needed old mid others (in_hand key into label x others old mid e c was rooted t.tree h.0 has) in
         (unset_by d c old new n (drafted d n) drafts refl l.absent k.1.lived, subst (λ m. IsMet into (along_name m key others) n) same k.0, k.1);
   })
@@ -203,14 +203,14 @@ moved_reach key met from to d c old new pic m into at others then n h = elim h [
         let has = subst (λ i. HasRows new key i m.rows) (sym same) m.takes.has in
         let placed = placed_rows new key m.out m.rows pic.is m.takes.has in
         same_reach key (last from) (last to) new m.mid m.out m.rows others (λ k. IsMoved key from to new k × IsSome (new k)) m.takes.has m.takes.arranges.rows (subst (λ i. HasRows m.mid key i others) same then) (at.unnamed m.rows has)
-        (λ l a. (inr (inl (at.along m.rows l has (inr a))), live_along new (treap (up key) m.rows) (before (last to)) (is_named (last to)) l placed a))
-        (λ l a. (inr (inr (record { id = m.id; dir = m.out; rows = m.rows; leads = m.leads; has = m.takes.has; met = inr a })), live_near new (treap (up key) m.rows) (before (last from)) (is_named (last from)) l placed a))
+        (λ l a. (inr (inl (at.along m.rows l has (inr a))), live_along new (treap (up key) m.rows) (is_row_before (last to)) (has_name (last to)) l placed a))
+        (λ l a. (inr (inr (record { id = m.id; dir = m.out; rows = m.rows; leads = m.leads; has = m.takes.has; met = inr a })), live_near new (treap (up key) m.rows) (is_row_before (last from)) (has_name (last from)) l placed a))
         n k
     by false e k =
         let off = λ (z : into.0 ≡ m.out.0). let t = eq-eqb into.0 m.out.0 z in differ (sym t ∙ e) in
         let same = other_alike key (last from) new m.mid m.out into m.rows others at.rows pic.is m.takes.tree off m.takes.has m.takes.arranges at.has then in
         let a = any_alike (last to) n (treap (up key) others) (treap (up key) at.rows) same k in
-        (inr (inl (at.along at.rows n at.has (inr a))), live_along new (treap (up key) at.rows) (before (last to)) (is_named (last to)) n (placed_rows new key into at.rows pic.is at.has) a)
+        (inr (inl (at.along at.rows n at.has (inr a))), live_along new (treap (up key) at.rows) (is_row_before (last to)) (has_name (last to)) n (placed_rows new key into at.rows pic.is at.has) a)
 
 -- a path that leads somewhere leads there from a directory that has rows
 dir_rows : (t : Shown) (key : List ℕ) (id above : FileId) (n : List ℕ) (ns : List (List ℕ)) (i dir : FileId) → Leads t key id above (n ∷ ns) (At i dir) → (rows : List Row) × HasRows t key dir rows
@@ -228,14 +228,14 @@ dir_rows t key id above n (m ∷ ms) i dir l = elim (step t key id above n (m �
 
 path_rows : (t : Shown) (key : List ℕ) (names : List (List ℕ)) (i dir : FileId) → 0 < length names → Resolves t key names (At i dir) → (rows : List Row) × HasRows t key dir rows
 path_rows t key [] i dir some l = absurd (omega (arith, some))
-path_rows t key (n ∷ ns) i dir some l = dir_rows t key root root n ns i dir l
+path_rows t key (n ∷ ns) i dir some l = dir_rows t key root_id root_id n ns i dir l
 
 -- the checks of the new name are the last of a move's
 pub rest_of_checks : (key : List ℕ) (met : List (List ℕ) → Seen) (from to : List (List ℕ)) (out : FileId) (d : Drafted) (c : Resident) (old new : Shown) (rest : Option PlainError) → IsSource d c from to (In out) → Pictured key met d c old new
     → move_checks (is_top from) (met from) (is_front from to) rest ≡ rest
 rest_of_checks key met from to out d c old new rest source pic = moves_on met from to rest source.1 (source.3 key met old new pic).0 source.2
 
-pub move_lacks : (key : List ℕ) (from to : List (List ℕ)) (out into : FileId) (d : Drafted) (c : Resident) (e : Short) → IsSource d c from to (In out) → IsPlace d c to (In into) → IsCarryShort key out (last from) into (last to) d c e → IsMoveShort key from to d c e
+pub move_lacks : (key : List ℕ) (from to : List (List ℕ)) (out into : FileId) (d : Drafted) (c : Resident) (e : Short) → IsSource d c from to (In out) → IsDestination d c to (In into) → IsCarryShort key out (last from) into (last to) d c e → IsMoveShort key from to d c e
 move_lacks key from to out into d c (Need n x) source place h = elim h [
   | inl k ↦ inl (record {
     unset = k.unset;
@@ -260,7 +260,7 @@ move_lacks key from to out into d c (Need n x) source place h = elim h [
 ]
 move_lacks key from to out into d c NoMemory source place h = tt
 
-pub moves : (key : List ℕ) (from to : List (List ℕ)) (out into : FileId) (d e : Drafted) (c : Resident) → IsSource d c from to (In out) → IsPlace d c to (In into) → (label other : List ℕ) → label ≡ last from → other ≡ last to
+pub moves : (key : List ℕ) (from to : List (List ℕ)) (out into : FileId) (d e : Drafted) (c : Resident) → IsSource d c from to (In out) → IsDestination d c to (In into) → (label other : List ℕ) → label ≡ last from → other ≡ last to
     → ((old new mid made : Shown) (x : Row) (rows others : List Row) → IsTree old → IsTree new → Drafts old new d c → IsWhole old → Takes key out label x rows new mid → Puts key into other x others mid made → Drafts old made e c)
     → (met : List (List ℕ) → Seen) (old new mid made : Shown) (id gone there beyond : FileId) (x : Row) (rows others : List Row) → Pictured key met d c old new → IsWhole old → Resolves new key from (At id gone) → Resolves new key (parent to) (At there beyond)
     → Takes key gone (last from) x rows new mid → Puts key there (last to) x others mid made → Drafts old made e c

@@ -11,12 +11,12 @@ use Rattle.iris_name.specs.declared.name.Name.TheVariants as name
 use Rattle.iris_node.specs.Trees.{Shown, IsTree}
 use Rattle.iris_node.specs.Unfolded.{Unfolded, Absent, Folder, Leaf, Even, Split, Stored, id_of}
 use Rattle.iris_shape.specs.Order.{less_name}
-use Rattle.iris_shape.specs.Treap.{Treap, Empty, Over, treap, rows, remove, without, way, near, Each, Every, Falls}
+use Rattle.iris_shape.specs.Treap.{Treap, Empty, Over, treap, rows, remove, rows_without, way, near, Each, Every, Falls}
 use Rattle.iris_shape.proofs.Orders.{ranks, all_apart, falls, parts}
 use Rattle.iris_shape.proofs.Treaps.{every_treap, rows_treap, treap_without}
 use Rattle.iris_shape.proofs.Ways.{way_remove}
-use Rattle.iris_dirtree.specs.Rows.{Row, row_id, row_name, Content, Directory, File, HasRows, IsFolderOf, Rearranges, arranged, entries, entry_of, row_entry, refilled, has_id, up}
-use Rattle.iris_dirtree.specs.Ways.{Any, IsNamed, along, along_name, near_name, before, is_named}
+use Rattle.iris_dirtree.specs.Rows.{Row, row_id, row_name, Content, Directory, File, HasRows, IsFolderOf, Rearranges, treap_of_rows, unfolded_rows, entry_of, row_entry, refilled, has_id, up}
+use Rattle.iris_dirtree.specs.Ways.{Any, IsNamed, along, along_name, near_name, is_row_before, has_name}
 use Rattle.iris_dirtree.proofs.Likes.{Placed, placed_rows}
 use Rattle.iris_paths.proofs.Alike.{Alike, alike_same, alike_refilled, any_alike, along_way, way_along, each_of, any_of, AnyNamed}
 
@@ -41,16 +41,16 @@ named_by true b h = cc
 named_by false true h = cc
 named_by false false h = (refl, refl)
 
-named_is : (n : List ℕ) (r : Row) → is_named n r ≡ true → r.name ≡ n
+named_is : (n : List ℕ) (r : Row) → has_name n r ≡ true → r.name ≡ n
 named_is n r h = let k = named_by (less_name r.name n) (less_name n r.name) h in less_same r.name n k.0 k.1
 
 named_off : (b : Bool) (P : Type 0) → (b ≡ true → P) → (P → ⊥) → b ≡ false
 named_off true P f g = absurd (g (f refl))
 named_off false P f g = refl
 
-none_named : (n : List ℕ) (xs : List Row) → IsNamed xs n None → Each (λ z. is_named n z ≡ false) xs
+none_named : (n : List ℕ) (xs : List Row) → IsNamed xs n None → Each (λ z. has_name n z ≡ false) xs
 none_named n [] h = tt
-none_named n (r ∷ xs) h = (named_off (is_named n r) (r.name ≡ n) (named_is n r) h.0, none_named n xs h.1)
+none_named n (r ∷ xs) h = (named_off (has_name n r) (r.name ≡ n) (named_is n r) h.0, none_named n xs h.1)
 
 -- ---- what stands in the table
 
@@ -113,36 +113,36 @@ folder_one i a b (Some (Split h level index low high)) f g = absurd f
 folder_one i a b (Some (Stored version bytes)) f g = absurd f
 
 same_rows : (key : List ℕ) (i : FileId) (t : Shown) (xs ys : List Row) → HasRows t key i xs → HasRows t key i ys → Alike (treap (up key) xs) (treap (up key) ys)
-unfolding arranged
+unfolding treap_of_rows
 same_rows key i t xs ys h k = alike_same (treap (up key) xs) (treap (up key) ys) (folder_one i.0 _ _ (t (name.Entry i)) h.entry k.entry)
 
-removed : (key n : List ℕ) (xs : List Row) (t : Shown) (i : FileId) → HasRows t key i xs → treap (up key) (without (is_named n) xs) ≡ remove (up key) (before n) (is_named n) (treap (up key) xs)
-removed key n xs t i h = treap_without (up key) (ranks (priority key) row_id) (before n) (is_named n) xs (all_apart (priority key) row_id xs h.distinct) (falls row_name n xs h.rising) (parts row_name n (is_named n) xs (named_is n) h.rising)
+removed : (key n : List ℕ) (xs : List Row) (t : Shown) (i : FileId) → HasRows t key i xs → treap (up key) (rows_without (has_name n) xs) ≡ remove (up key) (is_row_before n) (has_name n) (treap (up key) xs)
+removed key n xs t i h = treap_without (up key) (ranks (priority key) row_id) (is_row_before n) (has_name n) xs (all_apart (priority key) row_id xs h.distinct) (falls row_name n xs h.rising) (parts row_name n (has_name n) xs (named_is n) h.rising)
 
 -- going down towards a new name in the rows without one meets what is met towards it in all rows, or near that one
-pub same_reach : (key gone label : List ℕ) (t u : Shown) (i : FileId) (xs others : List Row) (Q : Name → Type 0) → HasRows t key i xs → HasRows u key i (without (is_named gone) xs) → HasRows u key i others → IsNamed xs label None
+pub same_reach : (key gone label : List ℕ) (t u : Shown) (i : FileId) (xs others : List Row) (Q : Name → Type 0) → HasRows t key i xs → HasRows u key i (rows_without (has_name gone) xs) → HasRows u key i others → IsNamed xs label None
     → ((n : Name) → AnyNamed n (along_name label key xs) → Q n) → ((n : Name) → AnyNamed n (near_name gone key xs) → Q n) → (n : Name) → AnyNamed n (along_name label key others) → Q n
 same_reach key gone label t u i xs others Q has left mine free first next n h =
     let w = treap (up key) xs in
-    let off : Every (λ z. is_named label z ≡ false) w = every_treap (λ z. is_named label z ≡ false) (up key) xs (none_named label xs free) in
-    let a = each_of Q (way (before label) w) (λ m k. first m (subst (λ l. AnyNamed m l) (way_along (before label) (is_named label) w off) k)) in
-    let b = each_of Q (near (before gone) (is_named gone) w) next in
-    let f = subst (λ l. Falls (before label) l) (sym (rows_treap (up key) xs)) (falls row_name label xs has.rising) in
-    let each = way_remove (up key) (before gone) (is_named gone) (before label) (λ z. Q (name.Entry (id_of z.id))) w f a b in
-    let k = any_alike label n (treap (up key) others) (treap (up key) (without (is_named gone) xs)) (same_rows key i u others (without (is_named gone) xs) mine left) h in
-    any_of Q n (way (before label) (remove (up key) (before gone) (is_named gone) w)) each
-    (along_way (before label) (is_named label) n (remove (up key) (before gone) (is_named gone) w) (subst (λ v. AnyNamed n (along (before label) (is_named label) v)) (removed key gone xs t i has) k))
+    let off : Every (λ z. has_name label z ≡ false) w = every_treap (λ z. has_name label z ≡ false) (up key) xs (none_named label xs free) in
+    let a = each_of Q (way (is_row_before label) w) (λ m k. first m (subst (λ l. AnyNamed m l) (way_along (is_row_before label) (has_name label) w off) k)) in
+    let b = each_of Q (near (is_row_before gone) (has_name gone) w) next in
+    let f = subst (λ l. Falls (is_row_before label) l) (sym (rows_treap (up key) xs)) (falls row_name label xs has.rising) in
+    let each = way_remove (up key) (is_row_before gone) (has_name gone) (is_row_before label) (λ z. Q (name.Entry (id_of z.id))) w f a b in
+    let k = any_alike label n (treap (up key) others) (treap (up key) (rows_without (has_name gone) xs)) (same_rows key i u others (rows_without (has_name gone) xs) mine left) h in
+    any_of Q n (way (is_row_before label) (remove (up key) (is_row_before gone) (has_name gone) w)) each
+    (along_way (is_row_before label) (has_name label) n (remove (up key) (is_row_before gone) (has_name gone) w) (subst (λ v. AnyNamed n (along (is_row_before label) (has_name label) v)) (removed key gone xs t i has) k))
 
 -- ---- another directory
 
 abbrev IsIn : Row → List Row → Type 0
 IsIn z xs = Any (λ (r : Row). r ≡ z) xs
 
-kept_in : (e : Row → Bool) (z : Row) (xs : List Row) → IsIn z (without e xs) → IsIn z xs
+kept_in : (e : Row → Bool) (z : Row) (xs : List Row) → IsIn z (rows_without e xs) → IsIn z xs
 kept_in e z [] h = h
 kept_in e z (y ∷ xs) h = by (e y) (kept_in e z xs) h
   where
-    by : (b : Bool) → (IsIn z (without e xs) → IsIn z xs) → IsIn z (cond b (without e xs) (y ∷ without e xs)) → IsIn z (y ∷ xs)
+    by : (b : Bool) → (IsIn z (rows_without e xs) → IsIn z xs) → IsIn z (cond b (rows_without e xs) (y ∷ rows_without e xs)) → IsIn z (y ∷ xs)
     by true f h = inr (f h)
     by false f h = elim h [ inl k ↦ inl k | inr k ↦ inr (f k) ]
 
@@ -163,7 +163,7 @@ placed_at t Empty z placed h = absurd h
 placed_at t (Over y l m) z placed h = elim (split_in z (rows l) (y ∷ rows m) h) [
   | inl k ↦ placed_at t l z placed.1 k
   | inr k ↦ elim k [
-    | inl e ↦ (entries l, entries m, subst (λ r. t (name.Entry (id_of r.id)) ≡ Some (row_entry r (entries l) (entries m))) e placed.0)
+    | inl e ↦ (unfolded_rows l, unfolded_rows m, subst (λ r. t (name.Entry (id_of r.id)) ≡ Some (row_entry r (unfolded_rows l) (unfolded_rows m))) e placed.0)
     | inr g ↦ placed_at t m z placed.2 g
   ]
 ]
@@ -206,29 +206,29 @@ in_id z (y ∷ ys) i g q = elim g [
   | inr s ↦ ap (λ b. (y.id == i) || b) (in_id z ys i s q) ∙ or_true (y.id == i)
 ]
 
-away : (i : ℕ) (e : Row → Bool) (xs : List Row) (b : Bool) → has_id i xs ≡ false → has_id i (without e xs) ≡ b → b ≡ false
+away : (i : ℕ) (e : Row → Bool) (xs : List Row) (b : Bool) → has_id i xs ≡ false → has_id i (rows_without e xs) ≡ b → b ≡ false
 away i e xs false h k = refl
-away i e xs true h k = let r = id_in i (without e xs) k in let t = in_id r.0 xs i (kept_in e r.0 xs r.1) r.2 in cc
+away i e xs true h k = let r = id_in i (rows_without e xs) k in let t = in_id r.0 xs i (kept_in e r.0 xs r.1) r.2 in cc
 
 module _ (key gone : List ℕ) (t u : Shown) (i j : FileId) (xs others ys : List Row) (was : IsTree t) (is : IsTree u) (off : j.0 ≡ i.0 → ⊥)
-    (has : HasRows t key i xs) (arranges : Rearranges t u key i xs (without (is_named gone) xs)) (mine : HasRows t key j ys) (then : HasRows u key j others) where
-  inside_same : (b c : Bool) → has_id j.0 xs ≡ b → has_id j.0 (without (is_named gone) xs) ≡ c → Alike (treap (up key) others) (treap (up key) ys)
-  unfolding arranged
+    (has : HasRows t key i xs) (arranges : Rearranges t u key i xs (rows_without (has_name gone) xs)) (mine : HasRows t key j ys) (then : HasRows u key j others) where
+  inside_same : (b c : Bool) → has_id j.0 xs ≡ b → has_id j.0 (rows_without (has_name gone) xs) ≡ c → Alike (treap (up key) others) (treap (up key) ys)
+  unfolding treap_of_rows
   inside_same false c h k =
-      let e = arranges.others (name.Entry j) (h, k ∙ away j.0 (is_named gone) xs c h k) in
-      alike_refilled i.0 (arranged key (without (is_named gone) xs)) (treap (up key) others) (treap (up key) ys)
-      (refill_folder i.0 (arranged key (without (is_named gone) xs)) j.0 (arranged key ys) (arranged key others) (t (name.Entry j)) (u (name.Entry j)) off mine.entry e then.entry)
-  inside_same true false h k = absurd (no_folder j.0 (arranged key others) (u (name.Entry j)) (arranges.gone j h k) then.entry)
+      let e = arranges.others (name.Entry j) (h, k ∙ away j.0 (has_name gone) xs c h k) in
+      alike_refilled i.0 (treap_of_rows key (rows_without (has_name gone) xs)) (treap (up key) others) (treap (up key) ys)
+      (refill_folder i.0 (treap_of_rows key (rows_without (has_name gone) xs)) j.0 (treap_of_rows key ys) (treap_of_rows key others) (t (name.Entry j)) (u (name.Entry j)) off mine.entry e then.entry)
+  inside_same true false h k = absurd (no_folder j.0 (treap_of_rows key others) (u (name.Entry j)) (arranges.gone j h k) then.entry)
   inside_same true true h k =
-      let r = id_in j.0 (without (is_named gone) xs) k in
+      let r = id_in j.0 (rows_without (has_name gone) xs) k in
       let z = r.0 in
       let same : id_of z.id ≡ j = ap id_of r.2 in
-      let a = placed_at t (treap (up key) xs) z (placed_rows t key i xs was has) (subst (IsIn z) (sym (rows_treap (up key) xs)) (kept_in (is_named gone) z xs r.1)) in
-      let b = placed_at u (treap (up key) (without (is_named gone) xs)) z (placed_rows u key i (without (is_named gone) xs) is arranges.rows) (subst (IsIn z) (sym (rows_treap (up key) (without (is_named gone) xs))) r.1) in
-      let f = content_is j.0 (arranged key ys) z.id z.name z.content a.0 a.1 (subst (IsFolderOf j.0 (arranged key ys)) (sym (ap (λ k. t (name.Entry k)) same) ∙ a.2) mine.entry) in
-      let g = content_is j.0 (arranged key others) z.id z.name z.content b.0 b.1 (subst (IsFolderOf j.0 (arranged key others)) (sym (ap (λ k. u (name.Entry k)) same) ∙ b.2) then.entry) in
-      alike_same (treap (up key) others) (treap (up key) ys) (directory_one (arranged key others) (arranged key ys) (sym g ∙ f))
+      let a = placed_at t (treap (up key) xs) z (placed_rows t key i xs was has) (subst (IsIn z) (sym (rows_treap (up key) xs)) (kept_in (has_name gone) z xs r.1)) in
+      let b = placed_at u (treap (up key) (rows_without (has_name gone) xs)) z (placed_rows u key i (rows_without (has_name gone) xs) is arranges.rows) (subst (IsIn z) (sym (rows_treap (up key) (rows_without (has_name gone) xs))) r.1) in
+      let f = content_is j.0 (treap_of_rows key ys) z.id z.name z.content a.0 a.1 (subst (IsFolderOf j.0 (treap_of_rows key ys)) (sym (ap (λ k. t (name.Entry k)) same) ∙ a.2) mine.entry) in
+      let g = content_is j.0 (treap_of_rows key others) z.id z.name z.content b.0 b.1 (subst (IsFolderOf j.0 (treap_of_rows key others)) (sym (ap (λ k. u (name.Entry k)) same) ∙ b.2) then.entry) in
+      alike_same (treap (up key) others) (treap (up key) ys) (directory_one (treap_of_rows key others) (treap_of_rows key ys) (sym g ∙ f))
 
   -- another directory goes on having rows of these ids and names
   pub other_alike : Alike (treap (up key) others) (treap (up key) ys)
-  other_alike = inside_same (has_id j.0 xs) (has_id j.0 (without (is_named gone) xs)) refl refl
+  other_alike = inside_same (has_id j.0 xs) (has_id j.0 (rows_without (has_name gone) xs)) refl refl

@@ -20,7 +20,7 @@ use Rattle.iris_dirtree.specs.Ways.{IsNamed, along_name}
 use Rattle.iris_dirtree.specs.Needs.{Listed, IsDirectory, IsDirNode, IsMet, IsLack}
 use Rattle.iris_paths.specs.declared.resolving.Found.{Found}
 use Rattle.iris_paths.specs.declared.resolving.Found.TheVariants.{Missing, ThroughFile}
-use Rattle.iris_paths.specs.Resolving.{root, Leads, Resolves, standing_at}
+use Rattle.iris_paths.specs.Resolving.{root_id, Leads, Resolves, standing_at}
 use Rattle.iris_paths.specs.Pictured.{Pictured, IsInSight, IsAlong, nearby, further, IsPathLack}
 use Rattle.iris_paths.proofs.Named.{not_both, one_named, named_id}
 use Rattle.iris_paths.proofs.Steps.{step, differ, dir_stands, dir_seen, folder_stands}
@@ -28,7 +28,7 @@ use Rattle.iris_paths.proofs.Steps.{step, differ, dir_stands, dir_seen, folder_s
 -- Resolving a path has come to the entry of an id, with these names left.
 pub record Reached (t : Shown) (key : List ℕ) (whole left : List (List ℕ)) (at above : FileId) (found : Found) : Type 0 where
   pub leads : Leads t key at above left found
-  pub along : (m : Name) → IsAlong t key at left m → IsAlong t key root whole m
+  pub along : (m : Name) → IsAlong t key at left m → IsAlong t key root_id whole m
   pub low : at.0 < 2 → standing_at t at ≡ ADirectory
 
 pub listed : {key : List ℕ} {met : List (List ℕ) → Seen} {d : Drafted} {c : Resident} {old new : Shown} (dir : FileId) (rows : List Row)
@@ -54,7 +54,7 @@ stands_dir key met d c old new pic at dir low = elim (cases_lt at.0 2) [
 ]
 
 module _ (key : List ℕ) (met : List (List ℕ) → Seen) (d : Drafted) (c : Resident) (old new : Shown) (pic : Pictured key met d c old new) (whole : List (List ℕ)) (found : Found) where
-  pub begun : Resolves new key whole found → Reached new key whole whole root root found
+  pub begun : Resolves new key whole found → Reached new key whole whole root_id root_id found
   begun r = record { leads = r; along = λ m a. a; low = λ _. pic.top }
 
   module _ (at above : FileId) (n : List ℕ) (left : List (List ℕ)) (come : Reached new key whole (n ∷ left) at above found) where
@@ -94,7 +94,7 @@ module _ (key : List ℕ) (met : List (List ℕ) → Seen) (d : Drafted) (c : Re
               }
         ]
 
-    pub met_here : IsDirectory d c at → (rows : List Row) × HasRows new key at rows × ((m : Name) → IsMet at (along_name n key rows) m → IsAlong new key root whole m)
+    pub met_here : IsDirectory d c at → (rows : List Row) × HasRows new key at rows × ((m : Name) → IsMet at (along_name n key rows) m → IsAlong new key root_id whole m)
     met_here dir = let r = rows_here dir in (r.0, r.1, λ m h. come.along m (nearby at n left r.0 m r.1 h))
 
 -- what a search for a row lacks, a plan lacks that meets what the search meets
@@ -121,5 +121,5 @@ pub none_left : (names : List (List ℕ)) (i : ℕ) → length names ≤ i → d
 none_left names i le = drop_of_length-le names le
 
 -- nothing is left but those that follow
-pub trail_end : (t : Shown) (key : List ℕ) (names : List (List ℕ)) (m : Name) → IsAlong t key root (names ++ []) m → IsAlong t key root names m
-trail_end t key names m a = subst (λ l. IsAlong t key root l m) (append-nil names) a
+pub trail_end : (t : Shown) (key : List ℕ) (names : List (List ℕ)) (m : Name) → IsAlong t key root_id (names ++ []) m → IsAlong t key root_id names m
+trail_end t key names m a = subst (λ l. IsAlong t key root_id l m) (append-nil names) a

@@ -26,10 +26,10 @@ use Rattle.iris_dirtree.specs.Needs.{Listed, IsLack, IsMet}
 use Rattle.iris_dirtree.proofs.Owned.{seen_own}
 use Rattle.iris_paths.specs.declared.resolving.Found.TheVariants.{Missing}
 use Rattle.iris_paths.specs.declared.entering.Place.TheVariants.{In, Not}
-use Rattle.iris_paths.specs.Resolving.{root, standing_at, Resolves, met_by}
+use Rattle.iris_paths.specs.Resolving.{root_id, standing_at, Resolves, met_by}
 use Rattle.iris_paths.specs.Pictured.{Pictured, IsAlong, nearby, further, IsOnTrail, every, IsPathLack}
 use Rattle.iris_paths.specs.Following.{standing_body, standing_node}
-use Rattle.iris_paths.specs.Entering.{no_directory, IsEntered, IsPlace}
+use Rattle.iris_paths.specs.Entering.{no_directory, IsEntered, IsDestination}
 use Rattle.iris_paths.proofs.Named.{not_both, one_named}
 use Rattle.iris_paths.proofs.Steps.{step, ended, differ, like_stands}
 use Rattle.iris_paths.proofs.Reaching.{listed, search_lacks, some_seen}
@@ -56,7 +56,7 @@ along_more t key dir _ more m (nearby _ n ns rows _ h e) = nearby dir n (ns ++ m
 along_more t key dir _ more m (further _ next n ns rows _ h e a) = further dir next n (ns ++ more) rows m h e (along_more t key next ns more m a)
 
 pub trail_more : (t : Shown) (key : List ℕ) (names more : List (List ℕ)) (m : Name) → IsOnTrail key names t m → IsOnTrail key (names ++ more) t m
-trail_more t key names more m h = elim h [ inl e ↦ inl e | inr a ↦ inr (along_more t key root names more m a) ]
+trail_more t key names more m h = elim h [ inl e ↦ inl e | inr a ↦ inr (along_more t key root_id names more m a) ]
 
 -- a plan that meets more lacks what another lacks
 pub lack_more : (key : List ℕ) (names more whole : List (List ℕ)) (d : Drafted) (c : Resident) (e : Short) → whole ≡ names ++ more → IsPathLack key every (IsOnTrail key names) d c e → IsPathLack key every (IsOnTrail key whole) d c e
@@ -95,7 +95,7 @@ node_there id (node.Entry e) own = body_there e.body
 node_there id (node.Part p) own = cc
 
 -- there is no place where there is no directory above
-pub no_above : (d : Drafted) (c : Resident) (names : List (List ℕ)) (e : PlainError) → 0 < length names → IsEntered d c (parent names) (Not e) → IsPlace d c names (Not e)
+pub no_above : (d : Drafted) (c : Resident) (names : List (List ℕ)) (e : PlainError) → 0 < length names → IsEntered d c (parent names) (Not e) → IsDestination d c names (Not e)
 no_above d c names e some entered key met old new pic = seen_place met names (met (parent names)) (met names) some refl refl ∙ shut_place (met (parent names)) (met names) e (entered key met old new pic)
 
 module _ (d : Drafted) (c : Resident) (names : List (List ℕ)) (dir : FileId) (some : 0 < length names) (entered : IsEntered d c (parent names) (In dir)) where
@@ -112,7 +112,7 @@ module _ (d : Drafted) (c : Resident) (names : List (List ℕ)) (dir : FileId) (
       (r.0, r.1, λ m k. on_trail key met old new pic r.0 m r.1 k))
 
   -- the directory that has no such name is the place
-  pub free : ((key : List ℕ) (old new : Shown) (rows : List Row) → Listed key dir d c old new rows → IsNamed rows (last names) None) → IsPlace d c names (In dir)
+  pub free : ((key : List ℕ) (old new : Shown) (rows : List Row) → Listed key dir d c old new rows → IsNamed rows (last names) None) → IsDestination d c names (In dir)
   free unnamed = (
     entered.0,
     some,
@@ -138,7 +138,7 @@ module _ (d : Drafted) (c : Resident) (names : List (List ℕ)) (dir : FileId) (
   )
 
   -- where a row has the name, it exists
-  pub full : (id : FileId) → IsDraft d → IsSound c → IsSome (seen d c (name.Entry id)) → ((key : List ℕ) (old new : Shown) (rows : List Row) → Listed key dir d c old new rows → IsNamed rows (last names) (Some id.0)) → IsPlace d c names (Not Exists)
+  pub full : (id : FileId) → IsDraft d → IsSound c → IsSome (seen d c (name.Entry id)) → ((key : List ℕ) (old new : Shown) (rows : List Row) → Listed key dir d c old new rows → IsNamed rows (last names) (Some id.0)) → IsDestination d c names (Not Exists)
   full id ds cs there named key met old new pic =
       let at = entered.1 key met old new pic in
       let f = pic.meets names in

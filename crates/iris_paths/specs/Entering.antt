@@ -18,7 +18,7 @@ use Rattle.iris_paths.specs.declared.resolving.Found.{Found}
 use Rattle.iris_paths.specs.declared.resolving.Found.TheVariants.{At}
 use Rattle.iris_paths.specs.declared.entering.Place.{Place}
 use Rattle.iris_paths.specs.declared.entering.Place.TheVariants.{In, Not}
-use Rattle.iris_paths.specs.Resolving.{root, standing_at, Leads, Resolves}
+use Rattle.iris_paths.specs.Resolving.{root_id, standing_at, Leads, Resolves}
 use Rattle.iris_paths.specs.Pictured.{Pictured, IsAlong, IsOnTrail}
 
 -- why there is no directory, by what resolving meets
@@ -32,7 +32,7 @@ pub record Enters (names : List (List ℕ)) (dir : FileId) (key : List ℕ) (met
   pub stands : met names ≡ ADirectory
   pub folder : standing_at new dir ≡ ADirectory
   pub onward : (more : List (List ℕ)) (found : Found) → Resolves new key (names ++ more) found → Leads new key dir above more found
-  pub along : (more : List (List ℕ)) (found : Found) → Resolves new key (names ++ more) found → (m : Name) → IsAlong new key dir more m → IsAlong new key root (names ++ more) m
+  pub along : (more : List (List ℕ)) (found : Found) → Resolves new key (names ++ more) found → (m : Name) → IsAlong new key dir more m → IsAlong new key root_id (names ++ more) m
 
 -- the directory at a path, or why there is none
 abbrev pub IsEntered : Drafted → Resident → List (List ℕ) → Place → Type 0
@@ -53,6 +53,6 @@ pub record Welcomes (names : List (List ℕ)) (dir : FileId) (key : List ℕ) (m
   pub has : HasRows new key dir rows
 
 -- the directory in which a new path is to stand, or why it can't
-abbrev pub IsPlace : Drafted → Resident → List (List ℕ) → Place → Type 0
-IsPlace d c names (In dir) = IsDirectory d c dir × (0 < length names) × ((key : List ℕ) (met : List (List ℕ) → Seen) (old new : Shown) → Pictured key met d c old new → Welcomes names dir key met new)
-IsPlace d c names (Not e) = (key : List ℕ) (met : List (List ℕ) → Seen) (old new : Shown) → Pictured key met d c old new → no_place met false names ≡ Some e
+abbrev pub IsDestination : Drafted → Resident → List (List ℕ) → Place → Type 0
+IsDestination d c names (In dir) = IsDirectory d c dir × (0 < length names) × ((key : List ℕ) (met : List (List ℕ) → Seen) (old new : Shown) → Pictured key met d c old new → Welcomes names dir key met new)
+IsDestination d c names (Not e) = (key : List ℕ) (met : List (List ℕ) → Seen) (old new : Shown) → Pictured key met d c old new → no_place met false names ≡ Some e

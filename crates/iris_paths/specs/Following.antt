@@ -13,7 +13,7 @@ use Rattle.iris_plain.specs.declared.checks.Seen.{Seen}
 use Rattle.iris_plain.specs.declared.checks.Seen.TheVariants.{ADirectory, AFile, Nothing, AFileBefore}
 use Rattle.iris_paths.specs.declared.resolving.Found.{Found}
 use Rattle.iris_paths.specs.declared.resolving.Found.TheVariants.{At, Missing, ThroughFile}
-use Rattle.iris_paths.specs.Resolving.{root, Leads, Resolves}
+use Rattle.iris_paths.specs.Resolving.{root_id, Leads, Resolves}
 use Rattle.iris_paths.specs.Pictured.{Pictured, IsAlong}
 
 -- the names that are left lead on from what the front came to
@@ -24,7 +24,7 @@ Onward t key ThroughFile more found = found ≡ ThroughFile
 
 -- what is met on going on from there is met on the whole path
 abbrev pub IsAlongOnward : Shown → List ℕ → List (List ℕ) → List (List ℕ) → Found → Type 0
-IsAlongOnward t key front more (At id parent) = (m : Name) → IsAlong t key id more m → IsAlong t key root (front ++ more) m
+IsAlongOnward t key front more (At id parent) = (m : Name) → IsAlong t key id more m → IsAlong t key root_id (front ++ more) m
 IsAlongOnward t key front more Missing = Unit {0}
 IsAlongOnward t key front more ThroughFile = Unit {0}
 

@@ -11,12 +11,12 @@ use Rattle.iris_cache.specs.Laws.{AreFormed}
 use Rattle.iris_dirtree.specs.Rows.{Row, Content, Directory, File, IsRooted}
 
 -- an empty directory, or an empty file
-abbrev pub fresh : Bool → Content
-fresh dir = if dir then Directory Absent else File 0 0 (Even 0)
+abbrev pub empty_content : Bool → Content
+empty_content dir = if dir then Directory Absent else File 0 0 (Even 0)
 
 -- the row of an empty directory or file
 abbrev pub new_row : ℕ → List ℕ → Bool → Row
-new_row id label dir = record { id = id; name = label; content = fresh dir }
+new_row id label dir = record { id = id; name = label; content = empty_content dir }
 
 -- a table that a change begins with: each live node but the roots has a parent, and what stands below a node is of its kind
 abbrev pub IsWhole : Shown → Type 0

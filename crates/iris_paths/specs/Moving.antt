@@ -5,17 +5,17 @@ use Rattle.iris_name.specs.declared.name.Name.{Name}
 use Rattle.iris_name.specs.declared.note.Expect.{Expect}
 use Rattle.iris_name.specs.declared.request.PlainError.{PlainError}
 use Rattle.iris_node.specs.Trees.{Shown, IsTree}
-use Rattle.iris_shape.specs.Treap.{put, without}
+use Rattle.iris_shape.specs.Treap.{rows_with, rows_without}
 use Rattle.iris_cache.specs.declared.held.Short.{Short}
 use Rattle.iris_cache.specs.declared.held.Short.TheVariants.{Need, NoMemory}
-use Rattle.iris_cache.specs.Resident.{Resident, held}
+use Rattle.iris_cache.specs.Resident.{Resident, held_node}
 use Rattle.iris_cache.specs.Drafted.{Drafted, drafted}
 use Rattle.iris_cache.specs.Pictures.{Drafts}
 use Rattle.iris_plain.specs.declared.checks.Seen.{Seen}
 use Rattle.iris_plain.specs.Checks.{unresolved, move_checks, no_place}
 use Rattle.iris_plain.specs.Routes.{parent, last, is_top, is_front}
 use Rattle.iris_dirtree.specs.Rows.{Row, HasRows, Rearranges, IsCountable}
-use Rattle.iris_dirtree.specs.Ways.{Any, before, is_named, along_name, near_name}
+use Rattle.iris_dirtree.specs.Ways.{Any, is_row_before, has_name, along_name, near_name}
 use Rattle.iris_dirtree.specs.Needs.{IsDirectory, Listed, IsMet, IsWanted, IsShort}
 use Rattle.iris_paths.specs.declared.resolving.Found.TheVariants.{At}
 use Rattle.iris_paths.specs.declared.entering.Place.{Place}
@@ -25,8 +25,8 @@ use Rattle.iris_paths.specs.Making.{IsWhole}
 use Rattle.iris_paths.specs.Pictured.{Pictured, IsOnTrail, Lacks, every}
 
 -- a row under another name
-abbrev pub renamed : List ℕ → Row → Row
-renamed label r = record r { name = label }
+abbrev pub renamed_row : List ℕ → Row → Row
+renamed_row label r = record r { name = label }
 
 -- The row x of a name goes from the rows of a directory: the second table is the first without it.
 pub record Takes (key : List ℕ) (dir : FileId) (label : List ℕ) (x : Row) (rows : List Row) (t u : Shown) : Type 0 where
@@ -35,14 +35,14 @@ pub record Takes (key : List ℕ) (dir : FileId) (label : List ℕ) (x : Row) (r
   pub named : x.name ≡ label
   pub tree : IsTree u
   pub countable : IsCountable u
-  pub arranges : Rearranges t u key dir rows (without (is_named label) rows)
+  pub arranges : Rearranges t u key dir rows (rows_without (has_name label) rows)
 
 -- The row x comes to the rows of a directory under a name: the second table is the first with it.
 pub record Puts (key : List ℕ) (dir : FileId) (label : List ℕ) (x : Row) (rows : List Row) (t u : Shown) : Type 0 where
   pub has : HasRows t key dir rows
   pub tree : IsTree u
   pub countable : IsCountable u
-  pub arranges : Rearranges t u key dir rows (put (before label) (renamed label x) rows)
+  pub arranges : Rearranges t u key dir rows (rows_with (is_row_before label) (renamed_row label x) rows)
 
 -- the directory out of which a path is to be moved to another, or why it can't, whatever the checks of the new name say
 abbrev pub IsSource : Drafted → Resident → List (List ℕ) → List (List ℕ) → Place → Type 0
@@ -67,7 +67,7 @@ IsMoved key from to t n = IsOnTrail key from t n ⊎ (IsOnTrail key to t n ⊎ I
 
 -- a plan with the row of a name in hand lacks a name that is met on going down towards the new name
 pub record LacksThen (key : List ℕ) (out : FileId) (name : List ℕ) (into : FileId) (label : List ℕ) (d : Drafted) (c : Resident) (n : Name) (x : Expect) : Type 0 where
-  pub absent : held c n ≡ None
+  pub absent : held_node c n ≡ None
   pub needed : (old new mid : Shown) (row : Row) (rows others : List Row) → IsTree old → IsTree new → Drafts old new d c → IsWhole old → Takes key out name row rows new mid → HasRows mid key into others
       → (drafted d n ≡ None) × IsMet into (along_name label key others) n × IsWanted old mid c n x
 
@@ -89,7 +89,7 @@ pub record IsMovable (key : List ℕ) (from : List (List ℕ)) (old new : Shown)
 
 -- A renaming with the row in hand lacks a name. It is one of those that are reached before the row is taken out.
 pub record LacksInHand (key : List ℕ) (from to : List (List ℕ)) (d : Drafted) (c : Resident) (n : Name) (x : Expect) : Type 0 where
-  pub absent : held c n ≡ None
+  pub absent : held_node c n ≡ None
   -- no check stands against it
   pub passes : (met : List (List ℕ) → Seen) (old new : Shown) → Pictured key met d c old new → move_checks (is_top from) (met from) (is_front from to) (no_place met false to) ≡ None
   pub needed : (met : List (List ℕ) → Seen) (old new : Shown) → Pictured key met d c old new → (m : IsMovable key from old new) (into beyond : FileId) (others : List Row)

@@ -7,7 +7,7 @@ use Rattle.iris_name.specs.declared.note.Expect.{Expect}
 use Rattle.iris_node.specs.Trees.{Shown, IsTree}
 use Rattle.iris_cache.specs.declared.held.Short.{Short}
 use Rattle.iris_cache.specs.declared.held.Short.TheVariants.{Need, NoMemory}
-use Rattle.iris_cache.specs.Resident.{Resident, held}
+use Rattle.iris_cache.specs.Resident.{Resident, held_node}
 use Rattle.iris_cache.specs.Drafted.{Drafted, drafted, seen}
 use Rattle.iris_cache.specs.Pictures.{Drafts}
 use Rattle.iris_plain.specs.declared.checks.Seen.{Seen}
@@ -17,14 +17,14 @@ use Rattle.iris_dirtree.specs.Ways.{IsNamed, along_name}
 use Rattle.iris_dirtree.specs.Needs.{IsDirectory, IsMet, IsWanted}
 use Rattle.iris_paths.specs.declared.resolving.Found.{Found}
 use Rattle.iris_paths.specs.declared.resolving.Found.TheVariants.{At, Missing, ThroughFile}
-use Rattle.iris_paths.specs.Resolving.{root, standing_at, Meets}
+use Rattle.iris_paths.specs.Resolving.{root_id, standing_at, Meets}
 
 -- A cache with a draft pictures a table, in which each path meets what `met` says and the root is a directory.
 pub record Pictured (key : List ℕ) (met : List (List ℕ) → Seen) (d : Drafted) (c : Resident) (old new : Shown) : Type 0 where
   pub was : IsTree old
   pub is : IsTree new
   pub drafts : Drafts old new d c
-  pub top : standing_at new root ≡ ADirectory
+  pub top : standing_at new root_id ≡ ADirectory
   pub meets : Meets new key met
 
 -- the entry of an id is seen, or it is that of a root
@@ -46,12 +46,12 @@ pub data IsAlong (t : Shown) (key : List ℕ) : FileId → List (List ℕ) → N
 
 -- a name on the trail of a path: the root's, or one that is met on going from the root
 abbrev pub IsOnTrail : List ℕ → List (List ℕ) → Shown → Name → Type 0
-IsOnTrail key names t m = (m ≡ name.Entry root) ⊎ IsAlong t key root names m
+IsOnTrail key names t m = (m ≡ name.Entry root_id) ⊎ IsAlong t key root_id names m
 
 -- A plan lacks a name that neither draft nor cache has. It speaks of the tables of which `also` holds, and reaches there what `reached` says.
 pub record Lacks (key : List ℕ) (also : Shown → Shown → Type 0) (reached : Shown → Name → Type 0) (d : Drafted) (c : Resident) (n : Name) (x : Expect) : Type 0 where
   pub unset : drafted d n ≡ None
-  pub absent : held c n ≡ None
+  pub absent : held_node c n ≡ None
   pub needed : (met : List (List ℕ) → Seen) (old new : Shown) → Pictured key met d c old new → also old new → reached new n × IsWanted old new c n x
 
 -- every pictured table

@@ -38,12 +38,12 @@ pub data Leads (t : Shown) (key : List ℕ) : FileId → FileId → List (List �
       → HasRows t key id rows → IsNamed rows n (Some next.0) → Leads t key next id ns found → Leads t key id parent (n ∷ ns) found
 
 -- the id of the visible root
-abbrev pub root : FileId
-root = id_of 0
+abbrev pub root_id : FileId
+root_id = id_of 0
 
 -- resolving a path comes to this
 abbrev pub Resolves : Shown → List ℕ → List (List ℕ) → Found → Type 0
-Resolves t key names found = Leads t key root root names found
+Resolves t key names found = Leads t key root_id root_id names found
 
 -- what resolving meets where it comes to this
 abbrev pub met_by : Shown → Found → Seen

@@ -6,7 +6,7 @@ ghost use Rattle.iris_plain.specs.Routes.{parent, last};
 ghost use Rattle.iris_dirtree.specs.Needs.{IsDirectory};
 ghost use Rattle.iris_paths.specs.Pictured.{AreInSight, IsOnTrail, IsPathLack, every};
 ghost use Rattle.iris_paths.specs.Following.{Follows};
-ghost use Rattle.iris_paths.specs.Entering.{IsEntered, IsPlace};
+ghost use Rattle.iris_paths.specs.Entering.{IsEntered, IsDestination};
 
 use crate::resolving::{Found, follow};
 use iris_cache::{Cache, Draft, Short};
@@ -60,7 +60,7 @@ pub(crate) fn enter(draft: &Draft, cache: &Cache, names: &[Text]) -> Result<Plac
 fn place_in(draft: &Draft, cache: &Cache, names: &[Text], dir: FileId) -> Result<Place, Short>
     requires some { 0 < length names.now }
     requires entered { IsEntered draft.now cache.now (parent names.now) (Place.In dir) }
-    ensures place { IfOk result (IsPlace draft.now cache.now names.now) }
+    ensures place { IfOk result (IsDestination draft.now cache.now names.now) }
     ensures short { IfErr result (λ e. (key : List ℕ) → IsPathLack key every (IsOnTrail key names.now) draft.now cache.now e) }
 {
     draft.sound();
@@ -75,7 +75,7 @@ fn place_in(draft: &Draft, cache: &Cache, names: &[Text], dir: FileId) -> Result
 
 /// The directory in which a new path is to stand, or why it can't.
 pub(crate) fn place_of(draft: &Draft, cache: &Cache, names: &[Text]) -> Result<Place, Short>
-    ensures place { IfOk result (IsPlace draft.now cache.now names.now) }
+    ensures place { IfOk result (IsDestination draft.now cache.now names.now) }
     ensures short { IfErr result (λ e. (key : List ℕ) → IsPathLack key every (IsOnTrail key names.now) draft.now cache.now e) }
 {
     if names.is_empty() {

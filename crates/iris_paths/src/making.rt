@@ -4,13 +4,13 @@ ghost use Rattle.std.specs.Prelude.{◌≡◌, ◌<◌, ℕ, List, Option, Some,
 ghost use Rattle.iris_name.specs.declared.name.FileId.{FileId as SpecId};
 ghost use Rattle.iris_node.specs.Rules.{IsBody};
 ghost use Rattle.iris_node.specs.Trees.{Shown, IsTree};
-ghost use Rattle.iris_shape.specs.Treap.{put};
+ghost use Rattle.iris_shape.specs.Treap.{rows_with};
 ghost use Rattle.iris_cache.specs.Pictures.{Drafts};
 ghost use Rattle.iris_plain.specs.declared.checks.Seen.{Seen as MetSeen};
 ghost use Rattle.iris_plain.specs.Checks.{no_place};
 ghost use Rattle.iris_plain.specs.Routes.{parent, last};
 ghost use Rattle.iris_dirtree.specs.Rows.{Row, HasRows, Rearranges, IsCountable};
-ghost use Rattle.iris_dirtree.specs.Ways.{before};
+ghost use Rattle.iris_dirtree.specs.Ways.{is_row_before};
 ghost use Rattle.iris_paths.specs.declared.resolving.Found.TheVariants.{At as CameTo};
 ghost use Rattle.iris_paths.specs.Resolving.{Resolves};
 ghost use Rattle.iris_paths.specs.Pictured.{Pictured, IsOnTrail, IsPathShort};
@@ -76,7 +76,7 @@ pub fn plan_make(
     ensures verdict { IfOk result (λ r. (met : List (List ℕ) → MetSeen) (old new : Shown) → Pictured keys.now.order met draft.old cache.now old new → r ≡ no_place met false path.now) }
     ensures made { IfOk result (λ r. r ≡ None → (met : List (List ℕ) → MetSeen) (old new made : Shown) (folder above : SpecId) (rows : List Row) → Pictured keys.now.order met draft.old cache.now old new → IsNew id old new
         → Resolves new keys.now.order (parent path.now) (CameTo folder above) → HasRows new keys.now.order folder rows → IsTree made → IsCountable made
-        → Rearranges new made keys.now.order folder rows (put (before (last path.now)) (new_row id.0 (last path.now) dir) rows) → Drafts old made draft.new cache.now) }
+        → Rearranges new made keys.now.order folder rows (rows_with (is_row_before (last path.now)) (new_row id.0 (last path.now) dir) rows) → Drafts old made draft.new cache.now) }
     ensures unchanged { IfOk result (λ r. IsSome r → draft.new ≡ draft.old) }
     ensures short { IfErr result (IsPathShort keys.now.order (IsNew id) (IsOnTrail keys.now.order path.now) draft.old cache.now) }
 {

@@ -4,7 +4,7 @@ ghost use Rattle.std.specs.Prelude.{◌≡◌, ℕ, List, IfOk, IfErr};
 ghost use Rattle.iris_node.specs.Trees.{Shown};
 ghost use Rattle.iris_name.specs.declared.request.Reply.TheVariants.{Stat};
 ghost use Rattle.iris_plain.specs.declared.checks.Seen.{Seen as MetSeen};
-ghost use Rattle.iris_plain.specs.Checks.{unresolved, is_dir, size_of};
+ghost use Rattle.iris_plain.specs.Checks.{unresolved, is_directory_seen, size_of};
 ghost use Rattle.iris_plain.specs.Steps.{Judged};
 ghost use Rattle.iris_cache.specs.Drafted.{seen};
 ghost use Rattle.iris_paths.specs.Pictured.{Pictured, AreInSight, IsOnTrail, IsPathLack, IsPathShort, every};
@@ -61,7 +61,7 @@ fn meet(draft: &Draft, cache: &Cache, names: &[Text]) -> Result<Seen, Short>
 /// Whether a directory stands at a path, and the length of a file there.
 pub fn plan_stat(draft: &Draft, cache: &Cache, path: &Path) -> Result<Reply, Short>
     ensures reply { IfOk result (λ reply. (key : List ℕ) (met : List (List ℕ) → MetSeen) (old new : Shown) → Pictured key met draft.now cache.now old new
-        → Judged (unresolved (met path.now)) (reply ≡ Stat (is_dir (met path.now)) (size_of (met path.now))) reply) }
+        → Judged (unresolved (met path.now)) (reply ≡ Stat (is_directory_seen (met path.now)) (size_of (met path.now))) reply) }
     ensures short { IfErr result (λ e. (key : List ℕ) → IsPathLack key every (IsOnTrail key path.now) draft.now cache.now e) }
 {
     let here = meet(draft, cache, path.names())?;

@@ -32,11 +32,11 @@ is_file Nothing = false
 is_file AFileBefore = false
 
 -- a directory is there
-abbrev pub is_dir : Seen → Bool
-is_dir ADirectory = true
-is_dir (AFile size) = false
-is_dir Nothing = false
-is_dir AFileBefore = false
+abbrev pub is_directory_seen : Seen → Bool
+is_directory_seen ADirectory = true
+is_directory_seen (AFile size) = false
+is_directory_seen Nothing = false
+is_directory_seen AFileBefore = false
 
 -- something is there
 abbrev pub is_there : Seen → Bool
@@ -78,17 +78,17 @@ new_name top above here full =
 -- a write of so many bytes
 abbrev pub write_checks : Seen → ℕ → ℕ → Bool → Option PlainError
 write_checks here offset count full =
-    then_error (error_if (nat_lt 262144 count) TooMuch) (then_error (unresolved here) (then_error (error_if (is_dir here) IsDir)
+    then_error (error_if (nat_lt 262144 count) TooMuch) (then_error (unresolved here) (then_error (error_if (is_directory_seen here) IsDir)
     (if count == 0 then None else then_error (error_if (nat_lt 268435456 (offset + count)) TooLong) (error_if full Full))))
 
 -- a read of so many bytes
 abbrev pub read_checks : Seen → ℕ → Option PlainError
-read_checks here count = then_error (error_if (nat_lt 262144 count) TooMuch) (then_error (unresolved here) (error_if (is_dir here) IsDir))
+read_checks here count = then_error (error_if (nat_lt 262144 count) TooMuch) (then_error (unresolved here) (error_if (is_directory_seen here) IsDir))
 
 -- a new length of a file
 abbrev pub resize_checks : Seen → ℕ → Bool → Option PlainError
 resize_checks here size full =
-    then_error (unresolved here) (then_error (error_if (is_dir here) IsDir) (then_error (error_if (nat_lt 268435456 size) TooLong)
+    then_error (unresolved here) (then_error (error_if (is_directory_seen here) IsDir) (then_error (error_if (nat_lt 268435456 size) TooLong)
     (if size == size_of here then None
     else then_error (error_if (nat_lt 0 size && nat_lt (blocks_of size + 64) (blocks_of (size_of here))) TooMuch) (error_if full Full))))
 

@@ -11,10 +11,10 @@ pub record Listed : Type 0 where
   pub age : ℕ
 
 -- what stands at a path by the list
-abbrev pub look : List Entry → List (List ℕ) → Option Kind
-look [] q = None
-look (e ∷ es) q = if is_path e.path q then Some e.kind else look es q
+abbrev pub kind_at : List Entry → List (List ℕ) → Option Kind
+kind_at [] q = None
+kind_at (e ∷ es) q = if is_path e.path q then Some e.kind else kind_at es q
 
 -- the plain state that the list stands for
-abbrev pub state_of : Listed → PlainState
-state_of p = record { files = look p.entries; age = p.age }
+abbrev pub state_of_list : Listed → PlainState
+state_of_list p = record { files = kind_at p.entries; age = p.age }

@@ -1,6 +1,6 @@
 -- The plain state: what stands at each path, and the age.
 use Rattle.std.specs.Prelude.{ℕ, ◌+◌, ◌-◌, List, [], ◌∷◌, ◌++◌, length, take, drop, replicate, Option, Some, None, if◌then◌else◌}
-use Rattle.iris_plain.specs.Routes.{is_path, under, rest}
+use Rattle.iris_plain.specs.Routes.{is_path, is_at_or_under, rest}
 use Rattle.iris_plain.specs.declared.checks.Seen.{Seen}
 use Rattle.iris_plain.specs.declared.checks.Seen.TheVariants.{ADirectory, AFile, Nothing, AFileBefore}
 use Rattle.iris_plain.specs.declared.files.Kind.{Kind}
@@ -16,8 +16,8 @@ pub record PlainState : Type 0 where
   pub age : ℕ
 
 -- the root alone
-abbrev pub fresh : PlainState
-fresh = record { files = λ q. if is_path [] q then Some Dir else None; age = 0 }
+abbrev pub fresh_state : PlainState
+fresh_state = record { files = λ q. if is_path [] q then Some Dir else None; age = 0 }
 
 -- what a place is seen as, where resolving comes to its end
 abbrev pub seen_kind : Option Kind → Seen
@@ -42,19 +42,19 @@ set names kind files = λ q. if is_path names q then Some kind else files q
 
 -- a path and all below it go
 abbrev pub cleared : List (List ℕ) → Files → Files
-cleared names files = λ q. if under names q then None else files q
+cleared names files = λ q. if is_at_or_under names q then None else files q
 
 -- a path is replaced by another in every path that has it in front
 abbrev pub shifted : List (List ℕ) → List (List ℕ) → Files → Files
-shifted olds news files = λ q. if under news q then files (olds ++ rest news q) else if under olds q then None else files q
+shifted olds news files = λ q. if is_at_or_under news q then files (olds ++ rest news q) else if is_at_or_under olds q then None else files q
 
 -- bytes over those at an offset; a gap is filled with zeros
 abbrev pub wrote : ℕ → List ℕ → List ℕ → List ℕ
 wrote offset bytes old = take offset (old ++ replicate (offset - length old) 0) ++ (bytes ++ drop (offset + length bytes) old)
 
 -- bytes cut, or filled with zeros
-abbrev pub resized : ℕ → List ℕ → List ℕ
-resized size old = take size (old ++ replicate (size - length old) 0)
+abbrev pub resized_bytes : ℕ → List ℕ → List ℕ
+resized_bytes size old = take size (old ++ replicate (size - length old) 0)
 
 -- a file's bytes changed
 abbrev pub on_bytes : (List ℕ → List ℕ) → Kind → Kind
@@ -67,5 +67,5 @@ on_kind f None = None
 on_kind f (Some kind) = Some (on_bytes f kind)
 
 -- the bytes of the file at a path changed
-abbrev pub reset : List (List ℕ) → (List ℕ → List ℕ) → Files → Files
-reset names f files = λ q. if is_path names q then on_kind f (files q) else files q
+abbrev pub bytes_changed : List (List ℕ) → (List ℕ → List ℕ) → Files → Files
+bytes_changed names f files = λ q. if is_path names q then on_kind f (files q) else files q

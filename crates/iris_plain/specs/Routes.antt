@@ -29,10 +29,10 @@ is_path (n ∷ ns) [] = false
 is_path (n ∷ ns) (m ∷ q) = bytes_eq m n && is_path ns q
 
 -- the second path is the first or lies below it
-abbrev pub under : List (List ℕ) → List (List ℕ) → Bool
-under [] q = true
-under (n ∷ ns) [] = false
-under (n ∷ ns) (m ∷ q) = bytes_eq m n && under ns q
+abbrev pub is_at_or_under : List (List ℕ) → List (List ℕ) → Bool
+is_at_or_under [] q = true
+is_at_or_under (n ∷ ns) [] = false
+is_at_or_under (n ∷ ns) (m ∷ q) = bytes_eq m n && is_at_or_under ns q
 
 -- the second path lies below the first
 abbrev pub is_front : List (List ℕ) → List (List ℕ) → Bool
@@ -48,5 +48,5 @@ rest (n ∷ ns) [] = []
 rest (n ∷ ns) (m ∷ q) = rest ns q
 
 -- the bytes of the first name come before those of the second
-abbrev pub before : List ℕ → List ℕ → Bool
-before a b = is_lt (slice_cmp nat_cmp a b)
+abbrev pub is_name_before : List ℕ → List ℕ → Bool
+is_name_before a b = is_lt (slice_cmp nat_cmp a b)

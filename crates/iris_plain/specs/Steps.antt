@@ -7,8 +7,8 @@ use Rattle.iris_name.specs.declared.request.Reply.{Reply}
 use Rattle.iris_name.specs.declared.request.Reply.TheVariants.{Done, Bytes as BytesAre, Names, Stat as StatIs, Plain}
 use Rattle.iris_name.specs.Paths.{names_of}
 use Rattle.iris_plain.specs.Pages.{IsPage}
-use Rattle.iris_plain.specs.Checks.{verdict, is_full, is_dir, size_of}
-use Rattle.iris_plain.specs.Files.{Files, PlainState, seen_at, set, cleared, shifted, reset, wrote, resized}
+use Rattle.iris_plain.specs.Checks.{verdict, is_full, is_directory_seen, size_of}
+use Rattle.iris_plain.specs.Files.{Files, PlainState, seen_at, set, cleared, shifted, bytes_changed, wrote, resized_bytes}
 use Rattle.iris_plain.specs.declared.files.Kind.{Kind}
 use Rattle.iris_plain.specs.declared.files.Kind.TheVariants.{Dir, Bytes}
 
@@ -25,9 +25,9 @@ by_names p (Some names) change = change names
 abbrev pub plain_change : PlainState → Request → PlainState
 plain_change p (Mkdir path) = by_names p (names_of path) (λ names. aged (set names Dir) p)
 plain_change p (Create path) = by_names p (names_of path) (λ names. aged (set names (Bytes [])) p)
-plain_change p (Write path offset bytes) = by_names p (names_of path) (λ names. if length bytes == 0 then p else aged (reset names (wrote offset bytes)) p)
+plain_change p (Write path offset bytes) = by_names p (names_of path) (λ names. if length bytes == 0 then p else aged (bytes_changed names (wrote offset bytes)) p)
 plain_change p (Read path offset count) = p
-plain_change p (Resize path size) = by_names p (names_of path) (λ names. if size == size_of (seen_at p.files names) then p else aged (reset names (resized size)) p)
+plain_change p (Resize path size) = by_names p (names_of path) (λ names. if size == size_of (seen_at p.files names) then p else aged (bytes_changed names (resized_bytes size)) p)
 plain_change p (Stat path) = p
 plain_change p (ListNames path after) = p
 plain_change p (Rename from to) = by_names p (names_of from) (λ olds. by_names p (names_of to) (λ news. aged (shifted olds news) p))
@@ -67,7 +67,7 @@ Accepted files (Create path) reply = reply ≡ Done
 Accepted files (Write path offset bytes) reply = reply ≡ Done
 Accepted files (Read path offset count) reply = OnNames (names_of path) (λ names. reply ≡ BytesAre (take count (drop offset (bytes_of (files names)))))
 Accepted files (Resize path size) reply = reply ≡ Done
-Accepted files (Stat path) reply = OnNames (names_of path) (λ names. reply ≡ StatIs (is_dir (seen_at files names)) (size_of (seen_at files names)))
+Accepted files (Stat path) reply = OnNames (names_of path) (λ names. reply ≡ StatIs (is_directory_seen (seen_at files names)) (size_of (seen_at files names)))
 Accepted files (ListNames path after) reply = OnNames (names_of path) (λ names. (page : List (List ℕ)) × ((reply ≡ Names page) × IsPage (has_name files names) 64 after page))
 Accepted files (Rename from to) reply = reply ≡ Done
 Accepted files (Remove path) reply = reply ≡ Done
@@ -86,17 +86,17 @@ abbrev pub PlainReplies : PlainState → Request → Reply → Type 0
 PlainReplies p request reply = Judged (plain_verdict p request) (Accepted p.files request reply) reply
 
 -- a request of the plain file system: none of the four that speak of the portal's keeping
-abbrev pub IsPlain : Request → Type 0
-IsPlain Sync = ⊥
-IsPlain Root = ⊥
-IsPlain Reclaim = ⊥
-IsPlain (Probe at) = ⊥
-IsPlain (Mkdir path) = Unit {0}
-IsPlain (Create path) = Unit {0}
-IsPlain (Write path offset bytes) = Unit {0}
-IsPlain (Read path offset count) = Unit {0}
-IsPlain (Resize path size) = Unit {0}
-IsPlain (Stat path) = Unit {0}
-IsPlain (ListNames path after) = Unit {0}
-IsPlain (Rename from to) = Unit {0}
-IsPlain (Remove path) = Unit {0}
+abbrev pub IsPlainRequest : Request → Type 0
+IsPlainRequest Sync = ⊥
+IsPlainRequest Root = ⊥
+IsPlainRequest Reclaim = ⊥
+IsPlainRequest (Probe at) = ⊥
+IsPlainRequest (Mkdir path) = Unit {0}
+IsPlainRequest (Create path) = Unit {0}
+IsPlainRequest (Write path offset bytes) = Unit {0}
+IsPlainRequest (Read path offset count) = Unit {0}
+IsPlainRequest (Resize path size) = Unit {0}
+IsPlainRequest (Stat path) = Unit {0}
+IsPlainRequest (ListNames path after) = Unit {0}
+IsPlainRequest (Rename from to) = Unit {0}
+IsPlainRequest (Remove path) = Unit {0}

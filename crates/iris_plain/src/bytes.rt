@@ -1,7 +1,7 @@
 //! The bytes of a file, written over and cut.
 
 ghost use Rattle.std.specs.Prelude.{◌≡◌, ◌+◌, ◌<◌, ◌≤◌, ◌^◌, ◌++◌, [], length, take, drop, IfOk, OnOk, OnErr};
-ghost use Rattle.iris_plain.specs.Files.{wrote, resized};
+ghost use Rattle.iris_plain.specs.Files.{wrote, resized_bytes};
 
 use iris_name::{Bytes, NoMemory};
 use std::alloc::Global;
@@ -54,7 +54,7 @@ pub fn overwrite(
 
 // Cuts the bytes, or fills them with zeros.
 fn resize_held(held: &mut Vec<u8>, size: usize) -> Result<(), NoMemory>
-    ensures ok { OnOk result (held.new.items ≡ resized size held.old.items) }
+    ensures ok { OnOk result (held.new.items ≡ resized_bytes size held.old.items) }
     ensures err { OnErr result (held.new.items ≡ held.old.items) }
 {
     held.resize(size, 0)?;
@@ -64,7 +64,7 @@ fn resize_held(held: &mut Vec<u8>, size: usize) -> Result<(), NoMemory>
 /// Cuts the bytes of a file, or fills them with zeros.
 pub fn resize(alloc: Global, bytes: &mut Bytes, size: u64) -> Result<(), NoMemory>
     requires { size < 2 ^ 63 }
-    ensures ok { OnOk result (bytes.new ≡ resized size bytes.old) }
+    ensures ok { OnOk result (bytes.new ≡ resized_bytes size bytes.old) }
     ensures err { OnErr result (bytes.new ≡ bytes.old) }
 {
     let mut held = taken(alloc, bytes);

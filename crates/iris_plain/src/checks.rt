@@ -3,7 +3,7 @@
 ghost use Rattle.std.specs.Prelude.{◌≡◌, ◌<◌, ◌^◌};
 ghost use Rattle.iris_name.specs.declared.request.PlainError.TheVariants.{Full, NotDir};
 ghost use Rattle.iris_plain.specs.declared.checks.Seen.TheVariants.{AFile};
-ghost use Rattle.iris_plain.specs.Checks.{blocks_of, is_full, is_file, is_dir, size_of, unresolved, error_if, then_error, new_name, write_checks, read_checks, resize_checks, move_checks, remove_checks};
+ghost use Rattle.iris_plain.specs.Checks.{blocks_of, is_full, is_file, is_directory_seen, size_of, unresolved, error_if, then_error, new_name, write_checks, read_checks, resize_checks, move_checks, remove_checks};
 
 use iris_name::PlainError;
 
@@ -204,7 +204,7 @@ pub fn remove_checks(top: bool, here: Seen, full: bool) -> Option<PlainError>
 
 /// Whether a directory is there.
 pub fn is_dir(here: Seen) -> bool
-    ensures { result ≡ is_dir here }
+    ensures { result ≡ is_directory_seen here }
 {
     match here {
         Seen::ADirectory => true,

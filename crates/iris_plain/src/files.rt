@@ -2,11 +2,11 @@
 
 ghost use Rattle.std.specs.Prelude.{◌≡◌, ◌||◌, ◌+◌, ◌<◌, ◌^◌, ℕ, length, List, [], ◌∷◌, ◌++◌, Bool, true, false, position, MatchOption, IfOk, OnOk, OnErr, if◌then◌else◌, Option, None};
 ghost use Rattle.std.specs.Str.{bytes_eq};
-ghost use Rattle.iris_plain.specs.Routes.{is_path, under, is_front, rest, before};
+ghost use Rattle.iris_plain.specs.Routes.{is_path, is_at_or_under, is_front, rest, is_name_before};
 ghost use Rattle.iris_plain.specs.Pages.{NoneLater, IsNext, IsPage};
 ghost use Rattle.iris_plain.specs.Steps.{has_name};
-ghost use Rattle.iris_plain.specs.Entries.{look};
-ghost use Rattle.iris_plain.specs.Files.{seen_kind, seen_at, set, cleared, shifted, reset, wrote, resized, on_bytes};
+ghost use Rattle.iris_plain.specs.Entries.{kind_at};
+ghost use Rattle.iris_plain.specs.Files.{seen_kind, seen_at, set, cleared, shifted, bytes_changed, wrote, resized_bytes, on_bytes};
 
 use crate::bytes::{overwrite, resize};
 use crate::checks::Seen;
@@ -55,14 +55,14 @@ pub fn is_name(a: &Text, b: &Text) -> bool
 
 /// Whether the bytes of one name come before those of another.
 pub fn is_before(a: &Text, b: &Text) -> bool
-    ensures { result ≡ before a.now b.now }
+    ensures { result ≡ is_name_before a.now b.now }
 {
     a.as_str() < b.as_str()
 }
 
 /// Whether the second path is the first or lies below it.
 pub fn is_under(above: &[Text], path: &[Text]) -> bool
-    ensures { result ≡ under above.now path.now }
+    ensures { result ≡ is_at_or_under above.now path.now }
 {
     if path.len() < above.len() {
         return false;
@@ -98,7 +98,7 @@ fn place_of(entries: &[Entry], names: &[Text]) -> Option<usize>
 
 /// What stands at a path of the list.
 pub fn look_at<'a>(entries: &'a [Entry], names: &[Text]) -> Option<&'a Kind>
-    ensures { MatchOption result (look entries.now names.now ≡ None) (λ kind. look entries.now names.now ≡ Some kind.now) }
+    ensures { MatchOption result (kind_at entries.now names.now ≡ None) (λ kind. kind_at entries.now names.now ≡ Some kind.now) }
 {
     match place_of(entries, names) {
         None => None,
@@ -118,7 +118,7 @@ fn seen_kind(kind: &Kind) -> Seen
 
 /// What resolving a path meets.
 pub fn seen_at(entries: &[Entry], names: &[Text]) -> Seen
-    ensures { result ≡ seen_at (look entries.now) names.now }
+    ensures { result ≡ seen_at (kind_at entries.now) names.now }
 {
     for k in 0..names.len() {
         match look_at(entries, &names[..k]) {
@@ -135,7 +135,7 @@ pub fn seen_at(entries: &[Entry], names: &[Text]) -> Seen
 
 /// Puts something at a path, in place of what stands there.
 pub fn add(entries: &mut Vec<Entry>, path: Path, kind: Kind) -> Result<(), NoMemory>
-    ensures ok { OnOk result ((q : List (List ℕ)) → look entries.new.items q ≡ set path kind (look entries.old.items) q) }
+    ensures ok { OnOk result ((q : List (List ℕ)) → kind_at entries.new.items q ≡ set path kind (kind_at entries.old.items) q) }
     ensures err { OnErr result (entries.new.items ≡ entries.old.items) }
 {
     entries.insert(0, Entry { path, kind })?;
@@ -144,14 +144,14 @@ pub fn add(entries: &mut Vec<Entry>, path: Path, kind: Kind) -> Result<(), NoMem
 
 /// Takes a path and all below it out.
 pub fn clear(entries: &mut Vec<Entry>, names: &[Text])
-    ensures { (q : List (List ℕ)) → look entries.new.items q ≡ cleared names.now (look entries.old.items) q }
+    ensures { (q : List (List ℕ)) → kind_at entries.new.items q ≡ cleared names.now (kind_at entries.old.items) q }
 {
     entries.retain(|e| !is_under(names, e.path.names()));
 }
 
 // What follows the first path in the second, which lies at or below it.
 fn rest_of<'a>(above: &[Text], path: &'a [Text]) -> &'a [Text]
-    requires { under above.now path.now ≡ true }
+    requires { is_at_or_under above.now path.now ≡ true }
     ensures { result.now ≡ rest above.now path.now }
 {
     &path[above.len()..]
@@ -164,7 +164,7 @@ fn moved_entry(
     olds: &[Text],
     news: &[Text],
 ) -> Result<Entry, NoMemory>
-    requires { under olds.now entry.now.path ≡ true }
+    requires { is_at_or_under olds.now entry.now.path ≡ true }
     ensures path { IfOk result (λ moved. moved.path ≡ news.now ++ rest olds.now entry.now.path) }
     ensures kind { IfOk result (λ moved. moved.kind ≡ entry.now.kind) }
 {
@@ -180,7 +180,7 @@ fn moved(
     olds: &[Text],
     news: &[Text],
 ) -> Result<Vec<Entry>, NoMemory>
-    ensures { IfOk result (λ v. (q : List (List ℕ)) → look v.items q ≡ (if under news.now q then look entries.now (olds.now ++ rest news.now q) else None)) }
+    ensures { IfOk result (λ v. (q : List (List ℕ)) → kind_at v.items q ≡ (if is_at_or_under news.now q then kind_at entries.now (olds.now ++ rest news.now q) else None)) }
 {
     let mut fresh = Vec::new(alloc);
     for entry in entries {
@@ -198,7 +198,7 @@ pub fn shift(
     olds: &[Text],
     news: &[Text],
 ) -> Result<(), NoMemory>
-    ensures ok { OnOk result ((q : List (List ℕ)) → look entries.new.items q ≡ shifted olds.now news.now (look entries.old.items) q) }
+    ensures ok { OnOk result ((q : List (List ℕ)) → kind_at entries.new.items q ≡ shifted olds.now news.now (kind_at entries.old.items) q) }
     ensures err { OnErr result (entries.new.items ≡ entries.old.items) }
 {
     let mut fresh = moved(alloc, entries.as_slice(), olds, news)?;
@@ -223,7 +223,7 @@ fn child_name<'a>(entry: &'a Entry, names: &[Text]) -> Option<&'a Text>
 
 /// The least name of a directory that is greater than another.
 pub fn next_name<'a>(entries: &'a [Entry], names: &[Text], after: &Text) -> Option<&'a Text>
-    ensures { MatchOption result (NoneLater (has_name (look entries.now) names.now) after.now) (λ name. IsNext (has_name (look entries.now) names.now) after.now name.now) }
+    ensures { MatchOption result (NoneLater (has_name (kind_at entries.now) names.now) after.now) (λ name. IsNext (has_name (kind_at entries.now) names.now) after.now name.now) }
 {
     let mut best: Option<&'a Text> = None;
     for entry in entries {
@@ -255,7 +255,7 @@ pub fn page(
     names: &[Text],
     after: &Text,
 ) -> Result<Texts, NoMemory>
-    ensures { IfOk result (λ page. IsPage (has_name (look entries.now) names.now) 64 after.now page) }
+    ensures { IfOk result (λ page. IsPage (has_name (kind_at entries.now) names.now) 64 after.now page) }
 {
     let mut page = Texts::new(alloc);
     let mut last = after;
@@ -288,7 +288,7 @@ fn write_entry(alloc: Global, entry: &mut Entry, offset: u64, piece: &[u8]) -> R
 fn resize_entry(alloc: Global, entry: &mut Entry, size: u64) -> Result<(), NoMemory>
     requires { size < 2 ^ 63 }
     ensures path { entry.new.path ≡ entry.old.path }
-    ensures ok { OnOk result (entry.new.kind ≡ on_bytes (resized size) entry.old.kind) }
+    ensures ok { OnOk result (entry.new.kind ≡ on_bytes (resized_bytes size) entry.old.kind) }
     ensures err { OnErr result (entry.new.kind ≡ entry.old.kind) }
 {
     match &mut entry.kind {
@@ -306,7 +306,7 @@ pub fn write_at(
     piece: &[u8],
 ) -> Result<(), NoMemory>
     requires { offset + length piece.now < 2 ^ 63 }
-    ensures ok { OnOk result ((q : List (List ℕ)) → look entries.new.items q ≡ reset names.now (wrote offset piece.now) (look entries.old.items) q) }
+    ensures ok { OnOk result ((q : List (List ℕ)) → kind_at entries.new.items q ≡ bytes_changed names.now (wrote offset piece.now) (kind_at entries.old.items) q) }
     ensures err { OnErr result (entries.new.items ≡ entries.old.items) }
 {
     match place_of(entries.as_slice(), names) {
@@ -323,7 +323,7 @@ pub fn resize_at(
     size: u64,
 ) -> Result<(), NoMemory>
     requires { size < 2 ^ 63 }
-    ensures ok { OnOk result ((q : List (List ℕ)) → look entries.new.items q ≡ reset names.now (resized size) (look entries.old.items) q) }
+    ensures ok { OnOk result ((q : List (List ℕ)) → kind_at entries.new.items q ≡ bytes_changed names.now (resized_bytes size) (kind_at entries.old.items) q) }
     ensures err { OnErr result (entries.new.items ≡ entries.old.items) }
 {
     match place_of(entries.as_slice(), names) {

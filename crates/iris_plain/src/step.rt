@@ -3,10 +3,10 @@
 ghost use Rattle.std.specs.Prelude.{◌≡◌, ◌==◌, ◌∷◌, [], ℕ, List, Option, None, length, drop, take, is_none, if◌then◌else◌, IfOk, OnOk, OnErr};
 ghost use Rattle.iris_name.specs.Paths.{names_of};
 ghost use Rattle.iris_plain.specs.Routes.{is_top, is_front, parent};
-ghost use Rattle.iris_plain.specs.Checks.{on_names, no_place, write_checks, read_checks, resize_checks, move_checks, remove_checks, unresolved, then_error, error_if, is_file, is_dir, size_of, is_full};
-ghost use Rattle.iris_plain.specs.Files.{fresh, seen_at, set, cleared, shifted, reset, wrote, resized};
-ghost use Rattle.iris_plain.specs.Steps.{IsPlain, PlainReplies, plain_step, Judged, OnNames, by_names, aged, bytes_of, has_name};
-ghost use Rattle.iris_plain.specs.Entries.{look, state_of};
+ghost use Rattle.iris_plain.specs.Checks.{on_names, no_place, write_checks, read_checks, resize_checks, move_checks, remove_checks, unresolved, then_error, error_if, is_file, is_directory_seen, size_of, is_full};
+ghost use Rattle.iris_plain.specs.Files.{fresh_state, seen_at, set, cleared, shifted, bytes_changed, wrote, resized_bytes};
+ghost use Rattle.iris_plain.specs.Steps.{IsPlainRequest, PlainReplies, plain_step, Judged, OnNames, by_names, aged, bytes_of, has_name};
+ghost use Rattle.iris_plain.specs.Entries.{kind_at, state_of_list};
 ghost use Rattle.iris_name.specs.declared.request.Reply.TheVariants.{Done, Bytes as BytesAre, Names, Stat as StatIs};
 ghost use Rattle.iris_name.specs.declared.request.PlainError.TheVariants.{NotDir};
 ghost use Rattle.iris_plain.specs.Pages.{IsPage};
@@ -63,7 +63,7 @@ pub fn above(names: &[Text]) -> &[Text]
 impl Plain {
     /// The root alone, at age 0.
     pub fn new(alloc: Global) -> Result<Plain, NoMemory>
-        ensures { IfOk result (λ plain. state_of plain ≡ fresh) }
+        ensures { IfOk result (λ plain. state_of_list plain ≡ fresh_state) }
     {
         let path = Path::joined(alloc, &[], &[])?;
         let mut entries = Vec::new(alloc);
@@ -76,7 +76,7 @@ impl Plain {
 
     // The checks of a new name at a path.
     fn new_at(&self, names: &[Text]) -> Option<PlainError>
-        ensures { result ≡ no_place (seen_at (look self.now.entries)) (is_full self.now.age) names.now }
+        ensures { result ≡ no_place (seen_at (kind_at self.now.entries)) (is_full self.now.age) names.now }
     {
         let directory = seen_at(self.entries.as_slice(), above(names));
         let here = seen_at(self.entries.as_slice(), names);
@@ -85,7 +85,7 @@ impl Plain {
 
     // What resolving a path meets.
     fn seen(&self, names: &[Text]) -> Seen
-        ensures { result ≡ seen_at (look self.now.entries) names.now }
+        ensures { result ≡ seen_at (kind_at self.now.entries) names.now }
     {
         seen_at(self.entries.as_slice(), names)
     }
@@ -99,9 +99,9 @@ impl Plain {
 
     // A new file or directory at the path of a text.
     fn make(&mut self, alloc: Global, path: &Text, kind: Kind) -> Result<Reply, NoMemory>
-        ensures reply { IfOk result (λ reply. Judged (on_names (names_of path.now) (no_place (seen_at (look self.old.entries)) (is_full self.old.age))) (reply ≡ Done) reply) }
-        ensures step { OnOk result (state_of self.new ≡ (if is_none (on_names (names_of path.now) (no_place (seen_at (look self.old.entries)) (is_full self.old.age)))
-            then by_names (state_of self.old) (names_of path.now) (λ names. aged (set names kind) (state_of self.old)) else state_of self.old)) }
+        ensures reply { IfOk result (λ reply. Judged (on_names (names_of path.now) (no_place (seen_at (kind_at self.old.entries)) (is_full self.old.age))) (reply ≡ Done) reply) }
+        ensures step { OnOk result (state_of_list self.new ≡ (if is_none (on_names (names_of path.now) (no_place (seen_at (kind_at self.old.entries)) (is_full self.old.age)))
+            then by_names (state_of_list self.old) (names_of path.now) (λ names. aged (set names kind) (state_of_list self.old)) else state_of_list self.old)) }
         ensures err { OnErr result (self.new ≡ self.old) }
     {
         let Some(path) = read_path(alloc, path)? else {
@@ -123,9 +123,9 @@ impl Plain {
         offset: u64,
         bytes: &[u8],
     ) -> Result<Reply, NoMemory>
-        ensures reply { IfOk result (λ reply. Judged (on_names (names_of path.now) (λ names. write_checks (seen_at (look self.old.entries) names) offset (length bytes.now) (is_full self.old.age))) (reply ≡ Done) reply) }
-        ensures step { OnOk result (state_of self.new ≡ (if is_none (on_names (names_of path.now) (λ names. write_checks (seen_at (look self.old.entries) names) offset (length bytes.now) (is_full self.old.age)))
-            then by_names (state_of self.old) (names_of path.now) (λ names. if length bytes.now == 0 then state_of self.old else aged (reset names (wrote offset bytes.now)) (state_of self.old)) else state_of self.old)) }
+        ensures reply { IfOk result (λ reply. Judged (on_names (names_of path.now) (λ names. write_checks (seen_at (kind_at self.old.entries) names) offset (length bytes.now) (is_full self.old.age))) (reply ≡ Done) reply) }
+        ensures step { OnOk result (state_of_list self.new ≡ (if is_none (on_names (names_of path.now) (λ names. write_checks (seen_at (kind_at self.old.entries) names) offset (length bytes.now) (is_full self.old.age)))
+            then by_names (state_of_list self.old) (names_of path.now) (λ names. if length bytes.now == 0 then state_of_list self.old else aged (bytes_changed names (wrote offset bytes.now)) (state_of_list self.old)) else state_of_list self.old)) }
         ensures err { OnErr result (self.new ≡ self.old) }
     {
         let Some(path) = read_path(alloc, path)? else {
@@ -145,8 +145,8 @@ impl Plain {
 
     // Bytes of the file at the path of a text.
     fn read(&self, alloc: Global, path: &Text, offset: u64, count: u64) -> Result<Reply, NoMemory>
-        ensures { IfOk result (λ reply. Judged (on_names (names_of path.now) (λ names. read_checks (seen_at (look self.now.entries) names) count))
-            (OnNames (names_of path.now) (λ names. reply ≡ BytesAre (take count (drop offset (bytes_of (look self.now.entries names)))))) reply) }
+        ensures { IfOk result (λ reply. Judged (on_names (names_of path.now) (λ names. read_checks (seen_at (kind_at self.now.entries) names) count))
+            (OnNames (names_of path.now) (λ names. reply ≡ BytesAre (take count (drop offset (bytes_of (kind_at self.now.entries names)))))) reply) }
     {
         let Some(path) = read_path(alloc, path)? else {
             return Ok(Reply::Plain(PlainError::BadPath));
@@ -162,9 +162,9 @@ impl Plain {
 
     // A new length of the file at the path of a text.
     fn resize(&mut self, alloc: Global, path: &Text, size: u64) -> Result<Reply, NoMemory>
-        ensures reply { IfOk result (λ reply. Judged (on_names (names_of path.now) (λ names. resize_checks (seen_at (look self.old.entries) names) size (is_full self.old.age))) (reply ≡ Done) reply) }
-        ensures step { OnOk result (state_of self.new ≡ (if is_none (on_names (names_of path.now) (λ names. resize_checks (seen_at (look self.old.entries) names) size (is_full self.old.age)))
-            then by_names (state_of self.old) (names_of path.now) (λ names. if size == size_of (seen_at (look self.old.entries) names) then state_of self.old else aged (reset names (resized size)) (state_of self.old)) else state_of self.old)) }
+        ensures reply { IfOk result (λ reply. Judged (on_names (names_of path.now) (λ names. resize_checks (seen_at (kind_at self.old.entries) names) size (is_full self.old.age))) (reply ≡ Done) reply) }
+        ensures step { OnOk result (state_of_list self.new ≡ (if is_none (on_names (names_of path.now) (λ names. resize_checks (seen_at (kind_at self.old.entries) names) size (is_full self.old.age)))
+            then by_names (state_of_list self.old) (names_of path.now) (λ names. if size == size_of (seen_at (kind_at self.old.entries) names) then state_of_list self.old else aged (bytes_changed names (resized_bytes size)) (state_of_list self.old)) else state_of_list self.old)) }
         ensures err { OnErr result (self.new ≡ self.old) }
     {
         let Some(path) = read_path(alloc, path)? else {
@@ -184,8 +184,8 @@ impl Plain {
 
     // The kind and the length of what stands at the path of a text.
     fn stat(&self, alloc: Global, path: &Text) -> Result<Reply, NoMemory>
-        ensures { IfOk result (λ reply. Judged (on_names (names_of path.now) (λ names. unresolved (seen_at (look self.now.entries) names)))
-            (OnNames (names_of path.now) (λ names. reply ≡ StatIs (is_dir (seen_at (look self.now.entries) names)) (size_of (seen_at (look self.now.entries) names)))) reply) }
+        ensures { IfOk result (λ reply. Judged (on_names (names_of path.now) (λ names. unresolved (seen_at (kind_at self.now.entries) names)))
+            (OnNames (names_of path.now) (λ names. reply ≡ StatIs (is_directory_seen (seen_at (kind_at self.now.entries) names)) (size_of (seen_at (kind_at self.now.entries) names)))) reply) }
     {
         let Some(path) = read_path(alloc, path)? else {
             return Ok(Reply::Plain(PlainError::BadPath));
@@ -202,8 +202,8 @@ impl Plain {
 
     // A page of the names of the directory at the path of a text.
     fn list(&self, alloc: Global, path: &Text, after: &Text) -> Result<Reply, NoMemory>
-        ensures { IfOk result (λ reply. Judged (on_names (names_of path.now) (λ names. then_error (unresolved (seen_at (look self.now.entries) names)) (error_if (is_file (seen_at (look self.now.entries) names)) NotDir)))
-            (OnNames (names_of path.now) (λ names. (page : List (List ℕ)) × ((reply ≡ Names page) × IsPage (has_name (look self.now.entries) names) 64 after.now page))) reply) }
+        ensures { IfOk result (λ reply. Judged (on_names (names_of path.now) (λ names. then_error (unresolved (seen_at (kind_at self.now.entries) names)) (error_if (is_file (seen_at (kind_at self.now.entries) names)) NotDir)))
+            (OnNames (names_of path.now) (λ names. (page : List (List ℕ)) × ((reply ≡ Names page) × IsPage (has_name (kind_at self.now.entries) names) 64 after.now page))) reply) }
     {
         let Some(path) = read_path(alloc, path)? else {
             return Ok(Reply::Plain(PlainError::BadPath));
@@ -217,9 +217,9 @@ impl Plain {
 
     // Replaces the path of one text by that of another.
     fn rename(&mut self, alloc: Global, from: &Text, to: &Text) -> Result<Reply, NoMemory>
-        ensures reply { IfOk result (λ reply. Judged (on_names (names_of from.now) (λ olds. on_names (names_of to.now) (λ news. move_checks (is_top olds) (seen_at (look self.old.entries) olds) (is_front olds news) (no_place (seen_at (look self.old.entries)) (is_full self.old.age) news)))) (reply ≡ Done) reply) }
-        ensures step { OnOk result (state_of self.new ≡ (if is_none (on_names (names_of from.now) (λ olds. on_names (names_of to.now) (λ news. move_checks (is_top olds) (seen_at (look self.old.entries) olds) (is_front olds news) (no_place (seen_at (look self.old.entries)) (is_full self.old.age) news))))
-            then by_names (state_of self.old) (names_of from.now) (λ olds. by_names (state_of self.old) (names_of to.now) (λ news. aged (shifted olds news) (state_of self.old))) else state_of self.old)) }
+        ensures reply { IfOk result (λ reply. Judged (on_names (names_of from.now) (λ olds. on_names (names_of to.now) (λ news. move_checks (is_top olds) (seen_at (kind_at self.old.entries) olds) (is_front olds news) (no_place (seen_at (kind_at self.old.entries)) (is_full self.old.age) news)))) (reply ≡ Done) reply) }
+        ensures step { OnOk result (state_of_list self.new ≡ (if is_none (on_names (names_of from.now) (λ olds. on_names (names_of to.now) (λ news. move_checks (is_top olds) (seen_at (kind_at self.old.entries) olds) (is_front olds news) (no_place (seen_at (kind_at self.old.entries)) (is_full self.old.age) news))))
+            then by_names (state_of_list self.old) (names_of from.now) (λ olds. by_names (state_of_list self.old) (names_of to.now) (λ news. aged (shifted olds news) (state_of_list self.old))) else state_of_list self.old)) }
         ensures err { OnErr result (self.new ≡ self.old) }
     {
         let Some(from) = read_path(alloc, from)? else {
@@ -246,9 +246,9 @@ impl Plain {
 
     // Takes the path of a text and all below it out.
     fn remove(&mut self, alloc: Global, path: &Text) -> Result<Reply, NoMemory>
-        ensures reply { IfOk result (λ reply. Judged (on_names (names_of path.now) (λ names. remove_checks (is_top names) (seen_at (look self.old.entries) names) (is_full self.old.age))) (reply ≡ Done) reply) }
-        ensures step { OnOk result (state_of self.new ≡ (if is_none (on_names (names_of path.now) (λ names. remove_checks (is_top names) (seen_at (look self.old.entries) names) (is_full self.old.age)))
-            then by_names (state_of self.old) (names_of path.now) (λ names. aged (cleared names) (state_of self.old)) else state_of self.old)) }
+        ensures reply { IfOk result (λ reply. Judged (on_names (names_of path.now) (λ names. remove_checks (is_top names) (seen_at (kind_at self.old.entries) names) (is_full self.old.age))) (reply ≡ Done) reply) }
+        ensures step { OnOk result (state_of_list self.new ≡ (if is_none (on_names (names_of path.now) (λ names. remove_checks (is_top names) (seen_at (kind_at self.old.entries) names) (is_full self.old.age)))
+            then by_names (state_of_list self.old) (names_of path.now) (λ names. aged (cleared names) (state_of_list self.old)) else state_of_list self.old)) }
         ensures err { OnErr result (self.new ≡ self.old) }
     {
         let Some(path) = read_path(alloc, path)? else {
@@ -265,9 +265,9 @@ impl Plain {
 
     /// One request of the plain file system: the reply by its checks, and the next state. A plain error changes nothing.
     pub fn step(&mut self, alloc: Global, request: &Request) -> Result<Reply, NoMemory>
-        requires { IsPlain request.now }
-        ensures reply { IfOk result (λ reply. PlainReplies (state_of self.old) request.now reply) }
-        ensures step { OnOk result (state_of self.new ≡ plain_step (state_of self.old) request.now) }
+        requires { IsPlainRequest request.now }
+        ensures reply { IfOk result (λ reply. PlainReplies (state_of_list self.old) request.now reply) }
+        ensures step { OnOk result (state_of_list self.new ≡ plain_step (state_of_list self.old) request.now) }
         ensures err { OnErr result (self.new ≡ self.old) }
     {
         match request {

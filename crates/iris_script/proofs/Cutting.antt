@@ -10,7 +10,7 @@ use Rattle.std.proofs.lemmas.Fmt.{decimal_by_steps, decimal_injective}
 use Rattle.std.specs.Prelude.{decimal}
 use Rattle.hex.proofs.HexLemmas.{decode_of-ok, decode_of-same}
 use Rattle.iris_script.specs.Words.{IsNumber, IsHexOf}
-use Rattle.iris_script.specs.Cuts.{IsCut, Lacks, without_empty_last, lines_of}
+use Rattle.iris_script.specs.Cuts.{IsCut, IsByteFree, without_empty_last, lines_of}
 
 -- a byte that isn't the one sought fails the test
 other_fails : (byte b : ℕ) → b ≢ byte → (b == byte) ≡ false
@@ -31,7 +31,7 @@ position_some : (p : ℕ → Bool) (xs : List ℕ) (i : ℕ) → position p xs �
 position_some p xs i h = grind arith
 
 -- where no place is found, the byte stands nowhere
-pub Lacks-from_none : (byte : ℕ) (text : List ℕ) → position (λ b. b == byte) text ≡ None → Lacks text byte
+pub Lacks-from_none : (byte : ℕ) (text : List ℕ) → position (λ b. b == byte) text ≡ None → IsByteFree text byte
 Lacks-from_none byte text h = λ k d below.
     let none = position_none (λ b. b == byte) text h in
     fails_other byte (get_or text k d) (fails_before_first (λ b. b == byte) text k d (omega (arith, none)))
@@ -57,7 +57,7 @@ IsCut-from_some byte text i h =
     }
 
 -- a text is cut at one place
-pub IsCut-same : (byte : ℕ) (a b c d : List ℕ) → Lacks a byte → Lacks c byte → a ++ byte ∷ b ≡ c ++ byte ∷ d → (a ≡ c) × (b ≡ d)
+pub IsCut-same : (byte : ℕ) (a b c d : List ℕ) → IsByteFree a byte → IsByteFree c byte → a ++ byte ∷ b ≡ c ++ byte ∷ d → (a ≡ c) × (b ≡ d)
 IsCut-same byte [] b [] d h k e = (refl, cc e)
 IsCut-same byte [] b (y ∷ c) d h k e =
     let P : ℕ → Type 0 = λ b. b ≢ byte in
@@ -102,14 +102,14 @@ no_lines [] h = refl
 no_lines (b ∷ rest) h = absurd (omega arith)
 
 -- the only line
-pub lines_of-last : (text rest : List ℕ) → 0 < length text → Lacks text 10 → length rest ≡ 0 → lines_of text ≡ text ∷ lines_of rest
+pub lines_of-last : (text rest : List ℕ) → 0 < length text → IsByteFree text 10 → length rest ≡ 0 → lines_of text ≡ text ∷ lines_of rest
 lines_of-last text rest some h none =
     let p : ℕ → Bool = λ b. b == 10 in
     ap without_empty_last (slice_split_none p text (λ k d below. other_fails 10 (get_or text k d) (h k d below)))
     ∙ lone_part text some ∙ ap (λ v. text ∷ v) (sym (no_lines rest none))
 
 -- the byte stands where it stands
-pub Lacks-not_here : (byte : ℕ) (a b : List ℕ) → Lacks (a ++ byte ∷ b) byte → ⊥
+pub Lacks-not_here : (byte : ℕ) (a b : List ℕ) → IsByteFree (a ++ byte ∷ b) byte → ⊥
 Lacks-not_here byte [] b h =
     let P : ℕ → Type 0 = λ x. x ≢ byte in
     All-head P byte b h refl
@@ -118,7 +118,7 @@ Lacks-not_here byte (x ∷ a) b h =
     Lacks-not_here byte a b (All-tail P x (a ++ byte ∷ b) h)
 
 -- no blank stands in a number
-pub Lacks-decimal : (n : ℕ) → n < 2 ^ 64 → Lacks (decimal n) 32
+pub Lacks-decimal : (n : ℕ) → n < 2 ^ 64 → IsByteFree (decimal n) 32
 Lacks-decimal =
     let P : ℕ → Type 0 = λ x. x ≢ 32 in
     decimal_by_steps (λ n ds. All P ds)

@@ -6,7 +6,7 @@ use Rattle.hex.specs.Hex.{decode_of, decode_sized}
 use Rattle.hex.specs.declared.error.FromHexError.{FromHexError}
 use Rattle.hex.proofs.HexLemmas.{decode_of-ok, decode_sized-twice}
 use Rattle.iris_script.specs.Words.{IsHexOf}
-use Rattle.iris_script.specs.Paths.{Begins, IsPlain, Unescapes}
+use Rattle.iris_script.specs.Paths.{Begins, IsUnescaped, Unescapes}
 use Rattle.iris_script.specs.Paths.Begins.{Plain, Escaped}
 use Rattle.iris_script.proofs.Cutting.{IsHexOf-same}
 
@@ -58,7 +58,7 @@ Begins-escaped (x ∷ high ∷ low ∷ rest) out long percent decodes =
     escaped_at x high low rest out percent (omega (arith, twice)) h
 
 -- a plain byte
-pub Begins-plain : (word : List ℕ) → 0 < length word → IsPlain (get_or word 0 0) → Begins word (get_or word 0 0) (drop 1 word)
+pub Begins-plain : (word : List ℕ) → 0 < length word → IsUnescaped (get_or word 0 0) → Begins word (get_or word 0 0) (drop 1 word)
 Begins-plain [] some p = absurd (omega arith)
 Begins-plain (b ∷ word) some p = Plain p refl
 
@@ -72,12 +72,12 @@ Begins-undecoded word e long percent fails b rest (Escaped high low h f) =
     cc (sym (ap (λ (t : List ℕ). decode_sized t 1) pair) ∙ fails, decodes)
 
 -- neither an escape nor a plain byte
-pub Begins-other : (word : List ℕ) → (3 ≤ length word → get_or word 0 0 ≡ 37 → ⊥) → (0 < length word → IsPlain (get_or word 0 0) → ⊥)
+pub Begins-other : (word : List ℕ) → (3 ≤ length word → get_or word 0 0 ≡ 37 → ⊥) → (0 < length word → IsUnescaped (get_or word 0 0) → ⊥)
     → (b : ℕ) (rest : List ℕ) → Begins word b rest → ⊥
 Begins-other word no_escape no_plain b rest (Plain p f) =
     let first : get_or word 0 0 ≡ b = ap (λ (t : List ℕ). get_or t 0 0) f in
     let len : length word ≡ length (b ∷ rest) = ap length f in
-    let P : ℕ → Type 0 = λ x. IsPlain x in
+    let P : ℕ → Type 0 = λ x. IsUnescaped x in
     no_plain (omega arith) (subst P (sym first) p)
 Begins-other word no_escape no_plain b rest (Escaped high low h f) =
     let first : get_or word 0 0 ≡ 37 = ap (λ (t : List ℕ). get_or t 0 0) f in

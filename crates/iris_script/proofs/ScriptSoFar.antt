@@ -4,7 +4,7 @@ use Rattle.std.specs.Str.Lines.{strip_carriage_return}
 use Rattle.std.proofs.lemmas.List.{append-nil, length-append}
 use Rattle.iris_name.specs.declared.request.Request.{Request}
 use Rattle.iris_script.specs.Cuts.{lines_of}
-use Rattle.iris_script.specs.Script.{AllAsk, IsCallLine, IsFault, IsFaultOf, IsFirst, IsNoRequest, IsSkipped, NamesFarClient, script_lines}
+use Rattle.iris_script.specs.Script.{AllAsk, IsCallLine, IsScriptFault, IsFaultOf, IsFirst, IsNoRequest, IsSkipped, NamesFarClient, script_lines}
 use Rattle.iris_script.specs.declared.script.ScriptError.{ScriptError}
 use Rattle.iris_script.specs.declared.script.ScriptError.TheVariants.{NotRequest, Client, NoMemory}
 
@@ -99,7 +99,7 @@ so_far_all script (b ∷ rest) number calls h empty = absurd (omega arith)
 -- the first line of the rest isn't read, for this reason
 pub so_far_fault : (script rest line next : List ℕ) (number : ℕ) (calls : List (ℕ × Request)) (e : ScriptError)
     → IsSoFar script rest number calls → lines_of rest ≡ line ∷ lines_of next
-    → IsFaultOf (strip_carriage_return line) (number + 1) e → IsFault (script_lines script) e
+    → IsFaultOf (strip_carriage_return line) (number + 1) e → IsScriptFault (script_lines script) e
 so_far_fault script rest line next number calls (NotRequest n) h first fault = so_far_bad IsNoRequest script rest line next number n calls h first fault.0 fault.1
 so_far_fault script rest line next number calls (Client n) h first fault = so_far_bad NamesFarClient script rest line next number n calls h first fault.0 fault.1
 so_far_fault script rest line next number calls NoMemory h first fault = tt

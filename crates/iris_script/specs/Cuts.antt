@@ -3,12 +3,12 @@ use Rattle.std.specs.Prelude.{◌≡◌, ◌≢◌, ◌==◌, ℕ, List, [], ◌
 use Rattle.std.specs.List.{All, slice_split}
 
 -- the byte stands nowhere in the text
-abbrev pub Lacks : List ℕ → ℕ → Type 0
-Lacks text byte = All (λ b. b ≢ byte) text
+abbrev pub IsByteFree : List ℕ → ℕ → Type 0
+IsByteFree text byte = All (λ b. b ≢ byte) text
 
 -- the text is the front, the byte, and the rest, and the byte doesn't stand in the front
 pub record IsCut (text : List ℕ) (byte : ℕ) (front rest : List ℕ) : Type 0 where
-  pub lacks : Lacks front byte
+  pub lacks : IsByteFree front byte
   pub whole : text ≡ front ++ byte ∷ rest
 
 -- the parts of a text, but for a last one without bytes

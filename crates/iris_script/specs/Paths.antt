@@ -4,12 +4,12 @@ use Rattle.std.specs.Str.{IsUtf8}
 use Rattle.iris_script.specs.Words.{IsHexOf}
 
 -- the byte stands for itself: it is no control, no blank, not 0x7f and not `%`
-abbrev pub IsPlain : ℕ → Type 0
-IsPlain b = (0x21 ≤ b) × (b ≢ 0x25) × (b ≢ 0x7f)
+abbrev pub IsUnescaped : ℕ → Type 0
+IsUnescaped b = (0x21 ≤ b) × (b ≢ 0x25) × (b ≢ 0x7f)
 
 -- the word begins with this byte, plain or as `%` and two hexadecimal digits, and the rest follows
 pub data Begins (word : List ℕ) (b : ℕ) (rest : List ℕ) : Type 0 where
-  Plain : IsPlain b → word ≡ b ∷ rest → Begins word b rest
+  Plain : IsUnescaped b → word ≡ b ∷ rest → Begins word b rest
   Escaped : (high low : ℕ) → IsHexOf (high ∷ low ∷ []) (b ∷ []) → word ≡ codes "%" ++ (high ∷ low ∷ rest) → Begins word b rest
 
 -- the word spells these bytes

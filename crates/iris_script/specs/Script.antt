@@ -95,7 +95,7 @@ IsFaultOf line number (Client n) = (n ≡ number) × NamesFarClient line
 IsFaultOf line number NoMemory = Unit {0}
 
 -- why a script isn't read: its first line that is no request or names a client above 16, or want of memory
-abbrev pub IsFault : List (List ℕ) → ScriptError → Type 0
-IsFault lines (NotRequest n) = IsFirst IsNoRequest lines n
-IsFault lines (Client n) = IsFirst NamesFarClient lines n
-IsFault lines NoMemory = Unit {0}
+abbrev pub IsScriptFault : List (List ℕ) → ScriptError → Type 0
+IsScriptFault lines (NotRequest n) = IsFirst IsNoRequest lines n
+IsScriptFault lines (Client n) = IsFirst NamesFarClient lines n
+IsScriptFault lines NoMemory = Unit {0}

@@ -3,7 +3,7 @@
 ghost use Rattle.std.specs.Prelude.{◌≡◌, ◌==◌, ◌<◌, ◌∷◌, length, map, IfOk, IfSome, IfNone};
 ghost use Rattle.std.specs.List.{position};
 ghost use Rattle.std.specs.Str.Lines.{strip_carriage_return};
-ghost use Rattle.iris_script.specs.Cuts.{IsCut, Lacks, lines_of};
+ghost use Rattle.iris_script.specs.Cuts.{IsCut, IsByteFree, lines_of};
 ghost use Rattle.iris_script.specs.Words.{words_of};
 
 use iris_name::NoMemory;
@@ -18,7 +18,7 @@ fn place_of(text: &[u8], byte: u8) -> Option<usize>
 /// What stands before the first such byte, and after it.
 pub fn cut_at(text: &[u8], byte: u8) -> Option<(&[u8], &[u8])>
     ensures some { IfSome result (λ parts. IsCut text.now byte parts.0.now parts.1.now) }
-    ensures none { IfNone result (Lacks text.now byte) }
+    ensures none { IfNone result (IsByteFree text.now byte) }
 {
     match place_of(text, byte) {
         Some(place) => Some((&text[..place], &text[place + 1..])),

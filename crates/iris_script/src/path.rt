@@ -1,13 +1,13 @@
 //! Paths as words of a line.
 
 ghost use Rattle.std.specs.Prelude.{◌<◌, ℕ, List, length, IsTrue, ◌↔◌, IfOk, IfSome, IfNone};
-ghost use Rattle.iris_script.specs.Paths.{Begins, IsPathWord, IsPlain, Unescapes};
+ghost use Rattle.iris_script.specs.Paths.{Begins, IsPathWord, IsUnescaped, Unescapes};
 
 use iris_name::{NoMemory, Text};
 use std::alloc::Global;
 
 fn is_plain(byte: u8) -> bool
-    ensures { IsTrue result ↔ IsPlain byte }
+    ensures { IsTrue result ↔ IsUnescaped byte }
 {
     byte > b' ' && byte != b'%' && byte != 0x7f
 }

@@ -3,7 +3,7 @@
 ghost use Rattle.std.specs.Prelude.{◌≡◌, ℕ, ◌≤◌, ◌↔◌, IsTrue, IfOk, IfErr, IfSome, IfNone, map};
 ghost use Rattle.iris_name.specs.declared.request.Request.{Request};
 ghost use Rattle.iris_script.specs.Words.{IsNumber};
-ghost use Rattle.iris_script.specs.Script.{AllAsk, IsCallLine, IsFault, IsFaultOf, IsSkipped, LineAsks, LineAsksNothing, WordsAsk, script_lines};
+ghost use Rattle.iris_script.specs.Script.{AllAsk, IsCallLine, IsScriptFault, IsFaultOf, IsSkipped, LineAsks, LineAsksNothing, WordsAsk, script_lines};
 
 use crate::cut::{first_line, split_words, strip_return};
 use crate::number::read_number;
@@ -144,7 +144,7 @@ fn read_call(alloc: Global, line: &[u8], number: u64) -> Result<(u32, Request), 
 /// return at the end of a line is dropped.
 pub fn read_script(alloc: Global, bytes: &[u8]) -> Result<Script, ScriptError>
     ensures ok { IfOk result (AllAsk (script_lines bytes.now)) }
-    ensures err { IfErr result (IsFault (script_lines bytes.now)) }
+    ensures err { IfErr result (IsScriptFault (script_lines bytes.now)) }
 {
     let mut calls = Vec::new(alloc);
     let mut number: u64 = 0;

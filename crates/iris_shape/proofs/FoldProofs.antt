@@ -4,7 +4,7 @@ use Rattle.std.proofs.lemmas.Bool.{eqb-true, eq-eqb, cases_lt, both_ways}
 use Rattle.std.proofs.lemmas.Bool.Decides.{nat_tests}
 use Rattle.std.proofs.Math.Nat.{pow-succ'}
 use Rattle.iris_shape.specs.Folds.{Fold, One, Two, join, folded}
-use Rattle.iris_shape.specs.FoldLaws.{IsUnder, Differ, IsFoldOf, OneFold, FoldedHalves, FoldedAt, FoldedSame, changed, FoldedOutside, FoldedInside}
+use Rattle.iris_shape.specs.FoldLaws.{IsUnder, Differ, IsFoldOf, OneFold, FoldedHalves, FoldedAt, FoldedSame, with_range_set, FoldedOutside, FoldedInside}
 
 pub folded-suc : (v : ℕ → ℕ) (l i : ℕ) → folded v (suc l) i ≡ join (folded v l (2 * i)) (folded v l (2 * i + 1))
 unfolding folded
@@ -140,8 +140,8 @@ one_fold v l i = (is_fold v l i, only_fold v l i)
 
 -- ---- a change of a range
 
-outside : (v : ℕ → ℕ) (low high w p : ℕ) → (low ≤ p → p < high → ⊥) → changed v low high w p ≡ v p
-unfolding changed
+outside : (v : ℕ → ℕ) (low high w p : ℕ) → (low ≤ p → p < high → ⊥) → with_range_set v low high w p ≡ v p
+unfolding with_range_set
 outside v low high w p n = by (cases_lt p low) (cases_lt p high)
   where
     skip : (t : Bool) → t ≡ false → cond t w (v p) ≡ v p
@@ -152,15 +152,15 @@ outside v low high w p n = by (cases_lt p low) (cases_lt p high)
     by (inr a) (inl b) = absurd (n a b)
     by (inr a) (inr b) = skip (not (nat_lt p low) && nat_lt p high) (grind (arith, nat_tests))
 
-inside : (v : ℕ → ℕ) (low high w p : ℕ) → low ≤ p → p < high → changed v low high w p ≡ w
-unfolding changed
+inside : (v : ℕ → ℕ) (low high w p : ℕ) → low ≤ p → p < high → with_range_set v low high w p ≡ w
+unfolding with_range_set
 inside v low high w p a b = take (not (nat_lt p low) && nat_lt p high) (grind (arith, nat_tests))
   where
     take : (t : Bool) → t ≡ true → cond t w (v p) ≡ w
     take t e = rw e refl
 
 pub folded_outside : FoldedOutside
-folded_outside v low high w l i h = folded_same (changed v low high w) v l i (λ p u. outside v low high w p (h p u))
+folded_outside v low high w l i h = folded_same (with_range_set v low high w) v l i (λ p u. outside v low high w p (h p u))
 
 pub folded_inside : FoldedInside
-folded_inside v low high w l i h = folded_even (changed v low high w) l i w (λ p u. inside v low high w p (h p u).0 (h p u).1)
+folded_inside v low high w l i h = folded_even (with_range_set v low high w) l i w (λ p u. inside v low high w p (h p u).0 (h p u).1)

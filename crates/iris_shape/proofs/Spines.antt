@@ -3,7 +3,7 @@ use Rattle.std.proofs.Common.{◌≡◌, ℕ, List, [], ◌∷◌, ◌++◌, map
 use Rattle.std.proofs.lemmas.Bool.{cond-true, cond-false, both_ways}
 use Rattle.iris_shape.specs.declared.heaping.Shape.{Shape}
 use Rattle.iris_shape.specs.declared.heaping.Half.{Half}
-use Rattle.iris_shape.specs.Treap.{Treap, Empty, Over, first, Each, Every, IsHeap, Ranks}
+use Rattle.iris_shape.specs.Treap.{Treap, Empty, Over, with_first, Each, Every, IsHeap, Ranks}
 use Rattle.iris_shape.specs.Shaped.{made_treap, made_half, spine, Parted, Closes}
 
 abbrev pub Spine : Type 0
@@ -105,11 +105,11 @@ below_ends up x all below b =
 
 -- ---- the row that is put first
 
-passes : (up : ℕ → ℕ → Bool) (x : ℕ) (stay go : Spine) → Each (λ o. up x o.0 ≡ false) stay → Each (λ o. up x o.0 ≡ true) go → first up x (spine (stay ++ go)) ≡ spine (stay ++ (x, spine go) ∷ [])
+passes : (up : ℕ → ℕ → Bool) (x : ℕ) (stay go : Spine) → Each (λ o. up x o.0 ≡ false) stay → Each (λ o. up x o.0 ≡ true) go → with_first up x (spine (stay ++ go)) ≡ spine (stay ++ (x, spine go) ∷ [])
 passes up x [] [] h k = refl
-passes up x [] (o ∷ go) h k = cond-true (up x o.0) (Over x Empty (spine (o ∷ go))) (Over o.0 (first up x (spine go)) o.1) k.0
+passes up x [] (o ∷ go) h k = cond-true (up x o.0) (Over x Empty (spine (o ∷ go))) (Over o.0 (with_first up x (spine go)) o.1) k.0
 passes up x (o ∷ stay) go h k =
-    cond-false (up x o.0) (Over x Empty (spine (o ∷ (stay ++ go)))) (Over o.0 (first up x (spine (stay ++ go))) o.1) h.0
+    cond-false (up x o.0) (Over x Empty (spine (o ∷ (stay ++ go)))) (Over o.0 (with_first up x (spine (stay ++ go))) o.1) h.0
     ∙ ap (λ t. Over o.0 t o.1) (passes up x stay go h.1 k)
 
 -- the row at the end of open rows is below each of them
@@ -132,7 +132,7 @@ front_or_none [] P f g = f refl
 front_or_none (x ∷ xs) P f g = front_or_none xs P (λ e. g [] x (ap (λ w. x ∷ w) e)) (λ front a e. g (x ∷ front) a (ap (λ w. x ∷ w) e))
 
 pub opens : (up : ℕ → ℕ → Bool) (r : Ranks up) (x : ℕ) (all : Spine) (left : List Half) (below : Shape) (half : Half) (now : List Half) → Closes up x all left below → IsHeap up (spine all) → half.row ≡ x → half.more ≡ below → now ≡ left ++ half ∷ []
-    → (t : Spine) × (now ≡ map made_half t) × (spine t ≡ first up x (spine all))
+    → (t : Spine) × (now ≡ map made_half t) × (spine t ≡ with_first up x (spine all))
 opens up r x all left below half now c heap hr hm e =
     let p = c.parted in
     let heap2 : IsHeap up (spine (p.stay ++ p.go)) = subst (λ (w : Spine). IsHeap up (spine w)) p.parts heap in
@@ -143,7 +143,7 @@ opens up r x all left below half now c heap hr hm e =
     let same : half ≡ made_half (x, spine p.go) = made_is half.row x half.more (made_treap (spine p.go)) hr (hm ∙ p.below_is) in (
       p.stay ++ (x, spine p.go) ∷ [],
       e ∙ ap (λ w. w ++ half ∷ []) p.left_is ∙ ap (λ h. map made_half p.stay ++ h ∷ []) same ∙ sym (map_both made_half p.stay ((x, spine p.go) ∷ [])),
-      sym (passes up x p.stay p.go none c.above) ∙ ap (λ w. first up x (spine w)) (sym p.parts),
+      sym (passes up x p.stay p.go none c.above) ∙ ap (λ w. with_first up x (spine w)) (sym p.parts),
     )
   where
     made_is : (a b : ℕ) (s t : Shape) → a ≡ b → s ≡ t → (let m : Half = record { row = a; more = s } in m) ≡ (let n : Half = record { row = b; more = t } in n)

@@ -1,14 +1,14 @@
 -- Putting a row into the list is inserting it into the treap.
 use Rattle.std.proofs.Common.{◌≡◌, List, [], ◌∷◌, ◌++◌, Bool, true, false, cond, refl, sym, ◌∙◌, ap, subst, append_assoc, append-nil}
 use Rattle.std.proofs.lemmas.Bool.{cond_both, cond-true, cond-false, both_ways}
-use Rattle.iris_shape.specs.Treap.{Treap, Empty, Over, first, treap, rows, low, high, insert, onto, merge, remove, keep, skip, put, without, Each, Every, IsHeap, Apart, AllApart, Ranks, Falls, Parts}
+use Rattle.iris_shape.specs.Treap.{Treap, Empty, Over, with_first, treap, rows, low, high, insert, onto, merge, remove, keep, skip, rows_with, rows_without, Each, Every, IsHeap, Apart, AllApart, Ranks, Falls, Parts}
 
 -- what is so of each row stays so
 
-every_first : {A : Type 0} (P : A → Type 0) (up : A → A → Bool) (x : A) (t : Treap A) → P x → Every P t → Every P (first up x t)
+every_first : {A : Type 0} (P : A → Type 0) (up : A → A → Bool) (x : A) (t : Treap A) → P x → Every P t → Every P (with_first up x t)
 every_first P up x Empty h k = (h, tt, tt)
 every_first P up x (Over y l m) h k =
-    elim (up x y) as (λ b. Every P (cond b (Over x Empty (Over y l m)) (Over y (first up x l) m))) [ true ↦ (h, tt, k) | false ↦ (k.0, every_first P up x l h k.1, k.2) ]
+    elim (up x y) as (λ b. Every P (cond b (Over x Empty (Over y l m)) (Over y (with_first up x l) m))) [ true ↦ (h, tt, k) | false ↦ (k.0, every_first P up x l h k.1, k.2) ]
 
 pub every_treap : {A : Type 0} (P : A → Type 0) (up : A → A → Bool) (xs : List A) → Each P xs → Every P (treap up xs)
 every_treap P up [] h = tt
@@ -98,10 +98,10 @@ heap_insert up r p x (Over y l m) a h =
       | false ↦ (every_insert (λ z. up y z ≡ true) up p x l u h.0, h.1, heap_insert up r p x l a.1 h.2, h.3)
     ])
 
-heap_first : {A : Type 0} (up : A → A → Bool) (r : Ranks up) (x : A) (t : Treap A) → Every (Apart up x) t → IsHeap up t → IsHeap up (first up x t)
+heap_first : {A : Type 0} (up : A → A → Bool) (r : Ranks up) (x : A) (t : Treap A) → Every (Apart up x) t → IsHeap up t → IsHeap up (with_first up x t)
 heap_first up r x Empty a h = (tt, tt, tt, tt)
 heap_first up r x (Over y l m) a h =
-    cond_both (up x y) (Over x Empty (Over y l m)) (Over y (first up x l) m) (IsHeap up)
+    cond_both (up x y) (Over x Empty (Over y l m)) (Over y (with_first up x l) m) (IsHeap up)
     (λ t. (tt, (t, below_through up r x y l t h.0, below_through up r x y m t h.1), tt, h))
     (λ f. (every_first (λ z. up y z ≡ true) up x l (a.0.0 f) h.0, h.1, heap_first up r x l a.1 h.2, h.3))
 
@@ -159,14 +159,14 @@ heap_remove up r p e (Over y l m) a h =
 
 -- a treap is the treap of its rows
 
-first_below : {A : Type 0} (up : A → A → Bool) (x : A) (t : Treap A) → Below up x t → first up x t ≡ Over x Empty t
+first_below : {A : Type 0} (up : A → A → Bool) (x : A) (t : Treap A) → Below up x t → with_first up x t ≡ Over x Empty t
 first_below up x Empty h = refl
-first_below up x (Over y l m) h = cond-true (up x y) (Over x Empty (Over y l m)) (Over y (first up x l) m) h.0
+first_below up x (Over y l m) h = cond-true (up x y) (Over x Empty (Over y l m)) (Over y (with_first up x l) m) h.0
 
 pub treap_at : {A : Type 0} (up : A → A → Bool) (r : Ranks up) (x : A) (ls : List A) (t : Treap A) (rs : List A) → Each (λ z. up x z ≡ true) ls → treap up rs ≡ t → Below up x t → treap up (ls ++ x ∷ rs) ≡ Over x (treap up ls) t
-treap_at up r x [] t rs i e h = ap (first up x) e ∙ first_below up x t h
+treap_at up r x [] t rs i e h = ap (with_first up x) e ∙ first_below up x t h
 treap_at up r x (y ∷ ls) t rs i e h =
-    ap (first up y) (treap_at up r x ls t rs i.1 e h) ∙ cond-false (up y x) (Over y Empty (Over x (treap up ls) t)) (Over x (first up y (treap up ls)) t) (r.one_way x y i.0)
+    ap (with_first up y) (treap_at up r x ls t rs i.1 e h) ∙ cond-false (up y x) (Over y Empty (Over x (treap up ls) t)) (Over x (with_first up y (treap up ls)) t) (r.one_way x y i.0)
 
 pub each_both : {A : Type 0} (P : A → Type 0) (a b : List A) → Each P a → Each P b → Each P (a ++ b)
 each_both P [] b h k = k
@@ -181,10 +181,10 @@ treap_rows up r Empty h = refl
 treap_rows up r (Over y l m) h =
     treap_at up r y (rows l) m (rows m) (each_of (λ z. up y z ≡ true) l h.0) (treap_rows up r m h.3) h.1 ∙ ap (λ a. Over y a m) (treap_rows up r l h.2)
 
-rows_first : {A : Type 0} (up : A → A → Bool) (x : A) (t : Treap A) → rows (first up x t) ≡ x ∷ rows t
+rows_first : {A : Type 0} (up : A → A → Bool) (x : A) (t : Treap A) → rows (with_first up x t) ≡ x ∷ rows t
 rows_first up x Empty = refl
 rows_first up x (Over y l m) =
-    elim (up x y) as (λ b. rows (cond b (Over x Empty (Over y l m)) (Over y (first up x l) m)) ≡ x ∷ (rows l ++ y ∷ rows m)) [ true ↦ refl | false ↦ ap (λ a. a ++ y ∷ rows m) (rows_first up x l) ]
+    elim (up x y) as (λ b. rows (cond b (Over x Empty (Over y l m)) (Over y (with_first up x l) m)) ≡ x ∷ (rows l ++ y ∷ rows m)) [ true ↦ refl | false ↦ ap (λ a. a ++ y ∷ rows m) (rows_first up x l) ]
 
 pub rows_treap : {A : Type 0} (up : A → A → Bool) (xs : List A) → rows (treap up xs) ≡ xs
 rows_treap up [] = refl
@@ -243,12 +243,12 @@ rows_high p (Over y l m) h =
     (λ t. rows_high p m fr.1 ∙ sym (skip_past p (rows l) y (rows m) h t))
     (λ f. ap (λ a. a ++ y ∷ rows m) (rows_high p l fl) ∙ sym (skip_short p (rows l) y (rows m) f))
 
-pub rows_insert : {A : Type 0} (up : A → A → Bool) (p : A → Bool) (x : A) (t : Treap A) → Falls p (rows t) → rows (insert up p x t) ≡ put p x (rows t)
+pub rows_insert : {A : Type 0} (up : A → A → Bool) (p : A → Bool) (x : A) (t : Treap A) → Falls p (rows t) → rows (insert up p x t) ≡ rows_with p x (rows t)
 rows_insert up p x Empty h = refl
 rows_insert up p x (Over y l m) h =
     let fl = falls_left p (rows l) (y ∷ rows m) h in
     let fr = falls_right p (rows l) (y ∷ rows m) h in
-    let R = λ (t : Treap _). rows t ≡ put p x (rows l ++ y ∷ rows m) in
+    let R = λ (t : Treap _). rows t ≡ rows_with p x (rows l ++ y ∷ rows m) in
     cond_both (up x y) (Over x (low p (Over y l m)) (high p (Over y l m))) (cond (p y) (Over y l (insert up p x m)) (Over y (insert up p x l) m)) R
     (λ u. ap (λ a. a ++ x ∷ rows (high p (Over y l m))) (rows_low p (Over y l m) h) ∙ ap (λ a. keep p (rows l ++ y ∷ rows m) ++ x ∷ a) (rows_high p (Over y l m) h))
     (λ u. cond_both (p y) (Over y l (insert up p x m)) (Over y (insert up p x l) m) R
@@ -267,13 +267,13 @@ pub rows_merge : {A : Type 0} (up : A → A → Bool) (a b : Treap A) → rows (
 rows_merge up Empty b = refl
 rows_merge up (Over x l m) b = rows_onto up x l m (merge up m) b (λ c. rows_merge up m c)
 
-without_both : {A : Type 0} (e : A → Bool) (a b : List A) → without e (a ++ b) ≡ without e a ++ without e b
+without_both : {A : Type 0} (e : A → Bool) (a b : List A) → rows_without e (a ++ b) ≡ rows_without e a ++ rows_without e b
 without_both e [] b = refl
-without_both e (x ∷ a) b = elim (e x) as (λ c. cond c (without e (a ++ b)) (x ∷ without e (a ++ b)) ≡ cond c (without e a) (x ∷ without e a) ++ without e b) [ true ↦ without_both e a b | false ↦ ap (λ c. x ∷ c) (without_both e a b) ]
+without_both e (x ∷ a) b = elim (e x) as (λ c. cond c (rows_without e (a ++ b)) (x ∷ rows_without e (a ++ b)) ≡ cond c (rows_without e a) (x ∷ rows_without e a) ++ rows_without e b) [ true ↦ without_both e a b | false ↦ ap (λ c. x ∷ c) (without_both e a b) ]
 
-without_none : {A : Type 0} (e : A → Bool) (a : List A) → Each (λ z. e z ≡ false) a → without e a ≡ a
+without_none : {A : Type 0} (e : A → Bool) (a : List A) → Each (λ z. e z ≡ false) a → rows_without e a ≡ a
 without_none e [] h = refl
-without_none e (x ∷ a) h = cond-false (e x) (without e a) (x ∷ without e a) h.0 ∙ ap (λ c. x ∷ c) (without_none e a h.1)
+without_none e (x ∷ a) h = cond-false (e x) (rows_without e a) (x ∷ rows_without e a) h.0 ∙ ap (λ c. x ∷ c) (without_none e a h.1)
 
 parts_left : {A : Type 0} (p e : A → Bool) (a b : List A) → Parts p e (a ++ b) → Parts p e a
 parts_left p e [] b h = tt
@@ -297,23 +297,23 @@ parts_past p e (x ∷ a) y b f h k = (
     elim_bool true P f g = f refl
     elim_bool false P f g = g refl
 
-pub rows_remove : {A : Type 0} (up : A → A → Bool) (p e : A → Bool) (t : Treap A) → Falls p (rows t) → Parts p e (rows t) → rows (remove up p e t) ≡ without e (rows t)
+pub rows_remove : {A : Type 0} (up : A → A → Bool) (p e : A → Bool) (t : Treap A) → Falls p (rows t) → Parts p e (rows t) → rows (remove up p e t) ≡ rows_without e (rows t)
 rows_remove up p e Empty f h = refl
 rows_remove up p e (Over y l m) f h =
     let fl = falls_left p (rows l) (y ∷ rows m) f in
     let fr = falls_right p (rows l) (y ∷ rows m) f in
     let hl = parts_left p e (rows l) (y ∷ rows m) h in
     let hr = parts_right p e (rows l) (y ∷ rows m) h in
-    let R = λ (t : Treap _). rows t ≡ without e (rows l ++ y ∷ rows m) in
+    let R = λ (t : Treap _). rows t ≡ rows_without e (rows l ++ y ∷ rows m) in
     let back = sym (without_both e (rows l) (y ∷ rows m)) in
     cond_both (e y) (merge up l m) (cond (p y) (Over y l (remove up p e m)) (Over y (remove up p e l) m)) R
     (λ t. let none = parts_past p e (rows l) y (rows m) f h (λ _. t) in
     let after = past (p y) (e y) t (hr.0) (hr.1) in
-    rows_merge up l m ∙ ap (λ a. a ++ rows m) (sym (without_none e (rows l) none)) ∙ ap (λ a. without e (rows l) ++ a) (sym (cond-true (e y) (without e (rows m)) (y ∷ without e (rows m)) t ∙ without_none e (rows m) after)) ∙ back)
+    rows_merge up l m ∙ ap (λ a. a ++ rows m) (sym (without_none e (rows l) none)) ∙ ap (λ a. rows_without e (rows l) ++ a) (sym (cond-true (e y) (rows_without e (rows m)) (y ∷ rows_without e (rows m)) t ∙ without_none e (rows m) after)) ∙ back)
     (λ n. cond_both (p y) (Over y l (remove up p e m)) (Over y (remove up p e l) m) R
     (λ t. let none = parts_past p e (rows l) y (rows m) f h (λ g. absurd (both_ways (p y) g t)) in
-    ap (λ a. rows l ++ y ∷ a) (rows_remove up p e m fr.1 hr.2) ∙ ap (λ a. a ++ y ∷ without e (rows m)) (sym (without_none e (rows l) none)) ∙ ap (λ a. without e (rows l) ++ a) (sym (cond-false (e y) (without e (rows m)) (y ∷ without e (rows m)) n)) ∙ back)
-    (λ g. ap (λ a. a ++ y ∷ rows m) (rows_remove up p e l fl hl) ∙ ap (λ a. without e (rows l) ++ y ∷ a) (sym (without_none e (rows m) (hr.1 g))) ∙ ap (λ a. without e (rows l) ++ a) (sym (cond-false (e y) (without e (rows m)) (y ∷ without e (rows m)) n)) ∙ back))
+    ap (λ a. rows l ++ y ∷ a) (rows_remove up p e m fr.1 hr.2) ∙ ap (λ a. a ++ y ∷ rows_without e (rows m)) (sym (without_none e (rows l) none)) ∙ ap (λ a. rows_without e (rows l) ++ a) (sym (cond-false (e y) (rows_without e (rows m)) (y ∷ rows_without e (rows m)) n)) ∙ back)
+    (λ g. ap (λ a. a ++ y ∷ rows m) (rows_remove up p e l fl hl) ∙ ap (λ a. rows_without e (rows l) ++ y ∷ a) (sym (without_none e (rows m) (hr.1 g))) ∙ ap (λ a. rows_without e (rows l) ++ a) (sym (cond-false (e y) (rows_without e (rows m)) (y ∷ rows_without e (rows m)) n)) ∙ back))
   where
     past : (b c : Bool) → c ≡ true → (b ≡ true → c ≡ false) → (b ≡ false → Each (λ z. e z ≡ false) (rows m)) → Each (λ z. e z ≡ false) (rows m)
     past true c t i j = absurd (both_ways c (i refl) t)
@@ -321,16 +321,16 @@ rows_remove up p e (Over y l m) f h =
 
 -- THE LAWS
 
-pub treap_put : {A : Type 0} (up : A → A → Bool) (r : Ranks up) (p : A → Bool) (x : A) (xs : List A) → AllApart up xs → Each (Apart up x) xs → Falls p xs → treap up (put p x xs) ≡ insert up p x (treap up xs)
+pub treap_put : {A : Type 0} (up : A → A → Bool) (r : Ranks up) (p : A → Bool) (x : A) (xs : List A) → AllApart up xs → Each (Apart up x) xs → Falls p xs → treap up (rows_with p x xs) ≡ insert up p x (treap up xs)
 treap_put up r p x xs a b f =
     let t = treap up xs in
     let e = rows_treap up xs in
-    let same = rows_insert up p x t (subst (Falls p) (sym e) f) ∙ ap (put p x) e in
+    let same = rows_insert up p x t (subst (Falls p) (sym e) f) ∙ ap (rows_with p x) e in
     ap (treap up) (sym same) ∙ treap_rows up r (insert up p x t) (heap_insert up r p x t (every_treap (Apart up x) up xs b) (heap_treap up r xs a))
 
-pub treap_without : {A : Type 0} (up : A → A → Bool) (r : Ranks up) (p e : A → Bool) (xs : List A) → AllApart up xs → Falls p xs → Parts p e xs → treap up (without e xs) ≡ remove up p e (treap up xs)
+pub treap_without : {A : Type 0} (up : A → A → Bool) (r : Ranks up) (p e : A → Bool) (xs : List A) → AllApart up xs → Falls p xs → Parts p e xs → treap up (rows_without e xs) ≡ remove up p e (treap up xs)
 treap_without up r p e xs a f h =
     let t = treap up xs in
     let i = rows_treap up xs in
-    let same = rows_remove up p e t (subst (Falls p) (sym i) f) (subst (Parts p e) (sym i) h) ∙ ap (without e) i in
+    let same = rows_remove up p e t (subst (Falls p) (sym i) f) (subst (Parts p e) (sym i) h) ∙ ap (rows_without e) i in
     ap (treap up) (sym same) ∙ treap_rows up r (remove up p e t) (heap_remove up r p e t (subst (AllApart up) (sym i) a) (heap_treap up r xs a))

@@ -37,13 +37,13 @@ abbrev pub FoldedSame : Type 0
 FoldedSame = (v w : ℕ → ℕ) (l i : ℕ) → ((p : ℕ) → IsUnder l i p → v p ≡ w p) → folded v l i ≡ folded w l i
 
 -- the versions with those from low on and below high put to w
-unfoldable pub changed : (ℕ → ℕ) → ℕ → ℕ → ℕ → ℕ → ℕ
-changed v low high w p = cond (not (nat_lt p low) && nat_lt p high) w (v p)
+unfoldable pub with_range_set : (ℕ → ℕ) → ℕ → ℕ → ℕ → ℕ → ℕ
+with_range_set v low high w p = cond (not (nat_lt p low) && nat_lt p high) w (v p)
 
 -- a part whose places all lie outside the range that is changed stays
 abbrev pub FoldedOutside : Type 0
-FoldedOutside = (v : ℕ → ℕ) (low high w l i : ℕ) → ((p : ℕ) → IsUnder l i p → low ≤ p → p < high → ⊥) → folded (changed v low high w) l i ≡ folded v l i
+FoldedOutside = (v : ℕ → ℕ) (low high w l i : ℕ) → ((p : ℕ) → IsUnder l i p → low ≤ p → p < high → ⊥) → folded (with_range_set v low high w) l i ≡ folded v l i
 
 -- a part whose places all lie inside it folds to the new version, and so does every part below
 abbrev pub FoldedInside : Type 0
-FoldedInside = (v : ℕ → ℕ) (low high w l i : ℕ) → ((p : ℕ) → IsUnder l i p → (low ≤ p) × (p < high)) → folded (changed v low high w) l i ≡ One w
+FoldedInside = (v : ℕ → ℕ) (low high w l i : ℕ) → ((p : ℕ) → IsUnder l i p → (low ≤ p) × (p < high)) → folded (with_range_set v low high w) l i ≡ One w

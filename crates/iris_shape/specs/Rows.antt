@@ -2,7 +2,7 @@
 use Rattle.std.specs.Prelude.{◌≡◌, ◌≢◌, ◌<◌, ◌⊎◌, ℕ, zero, suc, List, [], ◌∷◌, length, slice_get, Bool, Option, Some, None}
 use Rattle.iris_name.specs.Hmac.{priority}
 use Rattle.iris_shape.specs.declared.rows.Row.{Row}
-use Rattle.iris_shape.specs.Treap.{Treap, treap, put, Each}
+use Rattle.iris_shape.specs.Treap.{Treap, treap, rows_with, Each}
 use Rattle.iris_shape.specs.Order.{beside, less_name, Rising}
 
 abbrev pub name_in : Option Row → List ℕ
@@ -32,15 +32,15 @@ DistinctNames rows = (i j : ℕ) → i < j → j < length rows → name_at rows 
 -- the places of the first n rows, in order of names
 unfoldable pub in_order : List Row → ℕ → List ℕ
 in_order rows zero = []
-in_order rows (suc n) = put (λ j. less_name (name_at rows j) (name_at rows n)) n (in_order rows n)
+in_order rows (suc n) = rows_with (λ j. less_name (name_at rows j) (name_at rows n)) n (in_order rows n)
 
 -- a row stands above another under an order key
-abbrev pub above : List ℕ → List Row → ℕ → ℕ → Bool
-above key rows = beside (priority key) (id_at rows)
+abbrev pub has_priority_over : List ℕ → List Row → ℕ → ℕ → Bool
+has_priority_over key rows = beside (priority key) (id_at rows)
 
 -- the treap of a directory's rows under an order key
 abbrev pub treap_of : List ℕ → List Row → Treap ℕ
-treap_of key rows = treap (above key rows) (in_order rows (length rows))
+treap_of key rows = treap (has_priority_over key rows) (in_order rows (length rows))
 
 -- a place is one of these
 abbrev pub Among : ℕ → List ℕ → Type 0

@@ -8,14 +8,14 @@ pub data Treap (A : Type 0) : Type 0 where
   Over : (row : A) (less more : Treap A) → Treap A
 
 -- with a row that stands before all others in order; `up x y` says that x stands above y
-abbrev pub first : {A : Type 0} → (A → A → Bool) → A → Treap A → Treap A
-first up x Empty = Over x Empty Empty
-first up x (Over y l m) = cond (up x y) (Over x Empty (Over y l m)) (Over y (first up x l) m)
+abbrev pub with_first : {A : Type 0} → (A → A → Bool) → A → Treap A → Treap A
+with_first up x Empty = Over x Empty Empty
+with_first up x (Over y l m) = cond (up x y) (Over x Empty (Over y l m)) (Over y (with_first up x l) m)
 
 -- the treap of a list, from scratch
 abbrev pub treap : {A : Type 0} → (A → A → Bool) → List A → Treap A
 treap up [] = Empty
-treap up (x ∷ xs) = first up x (treap up xs)
+treap up (x ∷ xs) = with_first up x (treap up xs)
 
 -- its rows in order
 abbrev pub rows : {A : Type 0} → Treap A → List A
@@ -64,13 +64,13 @@ skip p [] = []
 skip p (y ∷ ys) = cond (p y) (skip p ys) (y ∷ ys)
 
 -- a list with a row put in at a name
-abbrev pub put : {A : Type 0} → (A → Bool) → A → List A → List A
-put p x ys = keep p ys ++ x ∷ skip p ys
+abbrev pub rows_with : {A : Type 0} → (A → Bool) → A → List A → List A
+rows_with p x ys = keep p ys ++ x ∷ skip p ys
 
 -- a list without the rows of a name
-abbrev pub without : {A : Type 0} → (A → Bool) → List A → List A
-without e [] = []
-without e (y ∷ ys) = cond (e y) (without e ys) (y ∷ without e ys)
+abbrev pub rows_without : {A : Type 0} → (A → Bool) → List A → List A
+rows_without e [] = []
+rows_without e (y ∷ ys) = cond (e y) (rows_without e ys) (y ∷ rows_without e ys)
 
 -- the rows met on going down towards a name
 abbrev pub way : {A : Type 0} → (A → Bool) → Treap A → List A

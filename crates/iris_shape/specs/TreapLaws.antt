@@ -1,6 +1,6 @@
 -- Laws of treaps, for every type of rows, in the form in which a caller holds a changed way from the top down.
 use Rattle.std.specs.Prelude.{◌≡◌, ℕ, Bool, true, false, List, ◌∷◌, ◌++◌}
-use Rattle.iris_shape.specs.Treap.{Treap, Over, treap, rows, insert, merge, remove, put, without, way, near, Each, IsHeap, Apart, AllApart, Ranks, Falls, Parts}
+use Rattle.iris_shape.specs.Treap.{Treap, Over, treap, rows, insert, merge, remove, rows_with, rows_without, way, near, Each, IsHeap, Apart, AllApart, Ranks, Falls, Parts}
 use Rattle.iris_shape.specs.Local.{found, either}
 use Rattle.iris_shape.specs.Order.{beside, less_name, Rising, Distinct}
 
@@ -17,12 +17,12 @@ OneTreap A = (up : A → A → Bool) (xs : List A) → Ranks up → AllApart up 
 -- putting a row into the list is putting it into the treap
 abbrev pub TreapPut : Type 0 → Type 0
 TreapPut A = (up : A → A → Bool) (p : A → Bool) (x : A) (xs : List A) → Ranks up → AllApart up xs → Each (Apart up x) xs → Falls p xs
-    → treap up (put p x xs) ≡ insert up p x (treap up xs)
+    → treap up (rows_with p x xs) ≡ insert up p x (treap up xs)
 
 -- taking a row out of the list is taking it out of the treap
 abbrev pub TreapWithout : Type 0 → Type 0
 TreapWithout A = (up : A → A → Bool) (p e : A → Bool) (xs : List A) → Ranks up → AllApart up xs → Falls p xs → Parts p e xs
-    → treap up (without e xs) ≡ remove up p e (treap up xs)
+    → treap up (rows_without e xs) ≡ remove up p e (treap up xs)
 
 -- an insertion changes what a node says only on the way to the name, and makes the node of the row
 abbrev pub NodesAfterPut : Type 0 → Type 0

@@ -1,8 +1,8 @@
 //! The treap of a directory's rows.
 
 ghost use Rattle.std.specs.Prelude.{◌≡◌, ℕ, List, length, map, OnOk, IfOk};
-ghost use Rattle.iris_shape.specs.Treap.{Treap, Over, IsHeap, first};
-ghost use Rattle.iris_shape.specs.Rows.{DistinctIds, above, treap_of};
+ghost use Rattle.iris_shape.specs.Treap.{Treap, Over, IsHeap, with_first};
+ghost use Rattle.iris_shape.specs.Rows.{DistinctIds, has_priority_over, treap_of};
 ghost use Rattle.iris_shape.specs.Shaped.{made_treap, made_half, spine, Closes};
 
 use crate::rows::{Row, ordered, stands_above};
@@ -51,7 +51,7 @@ fn close_below(
     opened: &mut Vec<Half>,
     place: u32,
 ) -> Result<Shape, NoMemory>
-    ensures { IfOk result (λ below. (s : List (ℕ × Treap ℕ)) → opened.old.items ≡ map made_half s → Closes (above keys.now.order rows.now) place s opened.new.items below) }
+    ensures { IfOk result (λ below. (s : List (ℕ × Treap ℕ)) → opened.old.items ≡ map made_half s → Closes (has_priority_over keys.now.order rows.now) place s opened.new.items below) }
 {
     let mut below = Shape::Empty;
     while let Some(half) = opened.pop() {
@@ -72,8 +72,8 @@ fn open_row(
     opened: &mut Vec<Half>,
     place: u32,
 ) -> Result<(), NoMemory>
-    ensures { OnOk result ((s : List (ℕ × Treap ℕ)) → opened.old.items ≡ map made_half s → IsHeap (above keys.now.order rows.now) (spine s)
-        → (t : List (ℕ × Treap ℕ)) × (opened.new.items ≡ map made_half t) × (spine t ≡ first (above keys.now.order rows.now) place (spine s))) }
+    ensures { OnOk result ((s : List (ℕ × Treap ℕ)) → opened.old.items ≡ map made_half s → IsHeap (has_priority_over keys.now.order rows.now) (spine s)
+        → (t : List (ℕ × Treap ℕ)) × (opened.new.items ≡ map made_half t) × (spine t ≡ with_first (has_priority_over keys.now.order rows.now) place (spine s))) }
 {
     let more = close_below(alloc, keys, rows, opened, place)?;
     opened.push(Half { row: place, more })?;

@@ -1,9 +1,9 @@
 //! The rows of a directory, and their order.
 
 ghost use Rattle.std.specs.Prelude.{◌≡◌, ◌≤◌, ◌<◌, ◌^◌, ℕ, length, take, drop, OnOk, IfOk};
-ghost use Rattle.iris_shape.specs.Treap.{put, keep, skip};
+ghost use Rattle.iris_shape.specs.Treap.{rows_with, keep, skip};
 ghost use Rattle.iris_shape.specs.Order.{beside, less_name, outranks};
-ghost use Rattle.iris_shape.specs.Rows.{name_at, id_at, in_order, above};
+ghost use Rattle.iris_shape.specs.Rows.{name_at, id_at, in_order, has_priority_over};
 
 use iris_mac::{Keys, priority};
 use iris_name::{FileId, NoMemory, Text};
@@ -58,7 +58,7 @@ pub(crate) fn outranks(p: u64, a: FileId, q: u64, b: FileId) -> bool
 
 /// Whether the first row stands above the second.
 pub(crate) fn stands_above(keys: &Keys, rows: &[Row], first: u32, second: u32) -> bool
-    ensures { result ≡ above keys.now.order rows.now first second }
+    ensures { result ≡ has_priority_over keys.now.order rows.now first second }
 {
     let (a, b) = (id_of(rows, first), id_of(rows, second));
     outranks(priority(keys, a), a, priority(keys, b), b)
@@ -80,7 +80,7 @@ fn count_before(rows: &[Row], order: &[u32], place: u32) -> usize
 
 // Puts a row into the order.
 fn put_row(rows: &[Row], order: &mut Vec<u32>, place: u32) -> Result<(), NoMemory>
-    ensures { OnOk result (order.new.items ≡ put (λ j. less_name (name_at rows.now j) (name_at rows.now place)) place order.old.items) }
+    ensures { OnOk result (order.new.items ≡ rows_with (λ j. less_name (name_at rows.now j) (name_at rows.now place)) place order.old.items) }
 {
     let at = count_before(rows, order.as_slice(), place);
     order.insert(at, place)?;

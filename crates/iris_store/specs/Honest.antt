@@ -15,8 +15,8 @@ pub record Shelf : Type 0 where
   pub faults : ℕ
 
 -- what is stored under a name
-abbrev pub stored : Shelf → Name → Option (List ℕ)
-stored shelf n = lookup (same_name n) shelf.records
+abbrev pub stored_record : Shelf → Name → Option (List ℕ)
+stored_record shelf n = lookup (same_name n) shelf.records
 
 -- one more, up to the last u64
 abbrev pub counted : ℕ → ℕ

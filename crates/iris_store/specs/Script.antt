@@ -26,13 +26,13 @@ is_for Discard Fail Discard = true
 is_for call act other = false
 
 -- whether a deed of that name, or of any, is for a name
-abbrev pub is_named : Option Name → Name → Bool
-is_named None name = true
-is_named (Some own) name = same_name own name
+abbrev pub is_deed_for : Option Name → Name → Bool
+is_deed_for None name = true
+is_deed_for (Some own) name = same_name own name
 
 -- whether a call fits a deed
 abbrev pub fits : Kind → Name → Deed → Bool
-fits call name deed = is_for deed.call deed.act call && is_named deed.name name
+fits call name deed = is_for deed.call deed.act call && is_deed_for deed.name name
 
 -- whether a deed is due at a call: it fits, and it is the one that the deed waits for, or the deed is for each
 abbrev pub is_due : Kind → Name → Deed → Bool

@@ -6,7 +6,7 @@ pub mod script;
 pub mod told;
 
 ghost use Rattle.std.specs.Prelude.{◌≡◌, ◌≤◌, ℕ, List, Option, length};
-ghost use Rattle.iris_store.specs.Traffic.{after_get, after_put, after_discard, IsCaused, IsShort};
+ghost use Rattle.iris_store.specs.Traffic.{after_get, after_put, after_discard, IsCaused, IsWithinLimit};
 ghost use Rattle.iris_store.specs.declared.Transfer.{Transfer as SpecTransfer};
 
 use iris_name::{Answer, Bytes, Name, NoMemory};
@@ -81,7 +81,7 @@ pub trait Store {
     fn get(&mut self, alloc: Global, name: &Name) -> Result<Option<Bytes>, StoreError>
         ensures traffic { traffic self.new ≡ after_get (traffic self.old) name.now result }
         ensures cause { IsCaused (faults self.old) (faults self.new) result }
-        ensures short { IsShort result };
+        ensures short { IsWithinLimit result };
 
     /// Stores a record. After `NoMemory` it isn't said whether the store took it.
     fn put(&mut self, alloc: Global, name: &Name, bytes: &[u8]) -> Result<(), StoreError>

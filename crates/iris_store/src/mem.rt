@@ -4,8 +4,8 @@ ghost use Rattle.std.specs.Prelude.{◌≡◌, ◌≤◌, length, ◌&&◌, [], 
 ghost use Rattle.std.specs.Option.{option_map};
 ghost use Rattle.iris_name.specs.Names.{same_name};
 ghost use Rattle.iris_name.specs.declared.name.Name.{Name as SpecName};
-ghost use Rattle.iris_store.specs.Traffic.{after_get, after_put, after_discard, IsCaused, IsShort};
-ghost use Rattle.iris_store.specs.Honest.{Shelf, stored, counted, fails_next, failed_if, Counts, Answers};
+ghost use Rattle.iris_store.specs.Traffic.{after_get, after_put, after_discard, IsCaused, IsWithinLimit};
+ghost use Rattle.iris_store.specs.Honest.{Shelf, stored_record, counted, fails_next, failed_if, Counts, Answers};
 
 use crate::{ANSWER_LEN, Store, StoreError};
 use indexmap::IndexMap;
@@ -86,8 +86,8 @@ impl Store for MemStore {
     fn get(&mut self, alloc: Global, name: &Name) -> Result<Option<Bytes>, StoreError>
         ensures traffic { None ≡ after_get None name.now result }
         ensures cause { IsCaused self.old.faults self.new.faults result }
-        ensures short { IsShort result }
-        ensures answer { Answers (fails_next self.old) (option_map (take ANSWER_LEN) (stored self.old name.now)) result }
+        ensures short { IsWithinLimit result }
+        ensures answer { Answers (fails_next self.old) (option_map (take ANSWER_LEN) (stored_record self.old name.now)) result }
         ensures counts { Counts self.old self.new }
         ensures records { self.new.records ≡ self.old.records }
     {
@@ -106,7 +106,7 @@ impl Store for MemStore {
         ensures cause { IsCaused self.old.faults self.new.faults result }
         ensures answer { Answers (fails_next self.old) tt result }
         ensures counts { Counts self.old self.new }
-        ensures stored { (q : SpecName) → stored self.new q ≡ (if is_ok result && same_name name.now q then Some bytes.now else stored self.old q) }
+        ensures stored { (q : SpecName) → stored_record self.new q ≡ (if is_ok result && same_name name.now q then Some bytes.now else stored_record self.old q) }
     {
         if self.fails() {
             return Err(StoreError::Failed);
@@ -121,7 +121,7 @@ impl Store for MemStore {
         ensures cause { IsCaused self.old.faults self.new.faults result }
         ensures answer { Answers (fails_next self.old) tt result }
         ensures counts { Counts self.old self.new }
-        ensures stored { (q : SpecName) → stored self.new q ≡ (if is_ok result && same_name name.now q then None else stored self.old q) }
+        ensures stored { (q : SpecName) → stored_record self.new q ≡ (if is_ok result && same_name name.now q then None else stored_record self.old q) }
     {
         if self.fails() {
             return Err(StoreError::Failed);

@@ -2,7 +2,7 @@
 
 ghost use Rattle.std.specs.Prelude.{◌≡◌, ◌≤◌, ◌+◌, ◌-◌, ◌^◌, min, map, None, Err, IfSome, IfNone, is_some, IsSomeAnd, filter, not, if◌then◌else◌};
 ghost use Rattle.std.specs.Option.{option_copied};
-ghost use Rattle.iris_store.specs.Traffic.{after_get, after_put, after_discard, IsCaused, IsShort};
+ghost use Rattle.iris_store.specs.Traffic.{after_get, after_put, after_discard, IsCaused, IsWithinLimit};
 ghost use Rattle.iris_store.specs.Honest.{counted};
 ghost use Rattle.iris_store.specs.Script.{is_for as is_for_call, fits as fits_call, is_due as is_due_at, is_spent as is_spent_at, due as due_act, left_after, left_by, waiting, IsDone, counted_by};
 
@@ -43,7 +43,7 @@ impl Act {
     #[tactic(auto, using(std::proofs::lemmas::List::take_min))]
     fn answer(&self, alloc: Global) -> Result<Option<Bytes>, StoreError>
         ensures done { IsDone self.now result }
-        ensures short { IsShort result }
+        ensures short { IsWithinLimit result }
     {
         match self {
             Act::Fail => Err(StoreError::Failed),
@@ -144,7 +144,7 @@ impl<S: Store> ScriptStore<S> {
     fn answer(&mut self, alloc: Global, name: &Name) -> Option<Result<Option<Bytes>, StoreError>>
         ensures none { IfNone result (due_act Kind.Get name.now self.old.deeds ≡ None) }
         ensures some { IfSome result (λ answer. IsSomeAnd (due_act Kind.Get name.now self.old.deeds) (λ act. IsDone act answer)) }
-        ensures short { IfSome result IsShort }
+        ensures short { IfSome result IsWithinLimit }
         ensures cause { IfSome result (IsCaused self.old.faults self.new.faults) }
         ensures own { self.new ≡ record self.old { faults = counted_by (due_act Kind.Get name.now self.old.deeds) self.old.faults } }
     {
@@ -194,7 +194,7 @@ impl<S: Store> Store for ScriptStore<S> {
     fn get(&mut self, alloc: Global, name: &Name) -> Result<Option<Bytes>, StoreError>
         ensures traffic { None ≡ after_get None name.now result }
         ensures cause { IsCaused (min (self.old.faults + S.faults self.old.inner) (2 ^ 64 - 1)) (min (self.new.faults + S.faults self.new.inner) (2 ^ 64 - 1)) result }
-        ensures short { IsShort result }
+        ensures short { IsWithinLimit result }
         ensures answer { IfSome (due_act Kind.Get name.now self.old.deeds) (λ act. IsDone act result × (self.new.inner ≡ self.old.inner)) }
         ensures passed { IfNone (due_act Kind.Get name.now self.old.deeds) ((S.traffic self.new.inner ≡ after_get (S.traffic self.old.inner) name.now result) × IsCaused (S.faults self.old.inner) (S.faults self.new.inner) result) }
         ensures own { self.new.faults ≡ counted_by (due_act Kind.Get name.now self.old.deeds) self.old.faults }

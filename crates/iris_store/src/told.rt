@@ -1,7 +1,7 @@
 //! A store that keeps the traffic of another.
 
 ghost use Rattle.std.specs.Prelude.{◌≡◌, ◌≢◌, [], Option, Some, None, Err, IfOk, IfErr};
-ghost use Rattle.iris_store.specs.Traffic.{answer_in, taken_in, after_get, after_put, after_discard, IsCaused, IsShort};
+ghost use Rattle.iris_store.specs.Traffic.{answer_in, taken_in, after_get, after_put, after_discard, IsCaused, IsWithinLimit};
 
 use crate::{Store, StoreError, Transfer};
 use iris_name::{Answer, Bytes, Name};
@@ -76,7 +76,7 @@ impl<S: Store> Store for Told<S> {
     fn get(&mut self, alloc: Global, name: &Name) -> Result<Option<Bytes>, StoreError>
         ensures traffic { Some self.new.1 ≡ after_get (Some self.old.1) name.now result }
         ensures cause { IsCaused (S.faults self.old.0) (S.faults self.new.0) result }
-        ensures short { IsShort result }
+        ensures short { IsWithinLimit result }
         ensures passed { result ≢ Err StoreError.NoMemory → S.traffic self.new.0 ≡ after_get (S.traffic self.old.0) name.now result }
     {
         self.told.reserve(1)?;

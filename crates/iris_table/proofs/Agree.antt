@@ -1,12 +1,12 @@
 -- Both resolve alike.
 use Rattle.std.proofs.Common.{◌≡◌, ◌≢◌, ◌⊎◌, inl, inr, ℕ, List, [], ◌∷◌, Bool, true, false, ◌&&◌, cond, Option, Some, None, refl, sym, ◌∙◌, ap, subst}
-use Rattle.iris_table.specs.Rows.{File, Rows, End, Row, Table, Taken, find, Found, Here, Missing, Through, resolved, followed, entered, root, met}
+use Rattle.iris_table.specs.Rows.{File, Rows, End, Row, Table, Taken, find, Found, Here, Missing, Through, resolved, followed, entered, root_row, met}
 use Rattle.std.specs.Str.{bytes_eq as same}
-use Rattle.iris_plain.specs.Routes.{under, rest, is_path}
+use Rattle.iris_plain.specs.Routes.{is_at_or_under, rest, is_path}
 use Rattle.iris_plain.specs.declared.files.Kind.{Kind}
 use Rattle.iris_plain.specs.declared.files.Kind.TheVariants.{Dir}
 use Rattle.iris_plain.specs.Files.{seen_at}
-use Rattle.iris_table.specs.View.{look, into, bound, kind, view}
+use Rattle.iris_table.specs.View.{kind_below, into, bound, kind_of, view}
 use Rattle.iris_table.proofs.Walks.{reached, seen}
 use Rattle.iris_plain.specs.declared.checks.Seen.TheVariants.{ADirectory as ADir, AFile}
 use Rattle.iris_plain.specs.Checks.{is_there}
@@ -42,25 +42,25 @@ seen_same Missing h = refl
 seen_same Through h = refl
 
 pub met_same : (t : Table) → AreGood t.visible → seen_at (view t).files ≡ seen_in t
-met_same t g = λ i ns. (seen_walk ns (λ q. look q (root t)) ∙ ap seen (walk_look ns (root t)) ∙ seen_same (met t ns) (λ row e. (good_at ns (root t) row e tt g).0)) i
+met_same t g = λ i ns. (seen_walk ns (λ q. kind_below q (root_row t)) ∙ ap seen (walk_look ns (root_row t)) ∙ seen_same (met t ns) (λ row e. (good_at ns (root_row t) row e tt g).0)) i
 
 abbrev pub kind_of : Found → Option Kind
-kind_of (Here row) = Some (kind row.file)
+kind_of (Here row) = Some (kind_of row.file)
 kind_of Missing = None
 kind_of Through = None
 
-pub look_resolved : (ns : List (List ℕ)) (row : Taken) → look ns row ≡ kind_of (resolved ns row)
+pub look_resolved : (ns : List (List ℕ)) (row : Taken) → kind_below ns row ≡ kind_of (resolved ns row)
 look_resolved [] row = refl
 look_resolved (n ∷ ns) row = by row.file (find n row.inside) (look_resolved ns) where
-  by : (file : Option File) (o : Option Taken) → ((below : Taken) → look ns below ≡ kind_of (resolved ns below))
-      → into file (bound o (λ below. look ns below)) ≡ kind_of (entered file (followed o (λ below. resolved ns below)))
+  by : (file : Option File) (o : Option Taken) → ((below : Taken) → kind_below ns below ≡ kind_of (resolved ns below))
+      → into file (bound o (λ below. kind_below ns below)) ≡ kind_of (entered file (followed o (λ below. resolved ns below)))
   by None None h = refl
   by None (Some below) h = h below
   by (Some f) o h = refl
 
 dir_kind : (found : Found) → seen_row found ≡ ADir → kind_of found ≡ Some Dir
 dir_kind (Here row) e = by row.file e where
-  by : (file : Option File) → seen_file file ≡ ADir → Some (kind file) ≡ Some Dir
+  by : (file : Option File) → seen_file file ≡ ADir → Some (kind_of file) ≡ Some Dir
   by None e = refl
   by (Some f) e = absurd (cc)
 dir_kind Missing e = absurd (cc)
@@ -68,40 +68,40 @@ dir_kind Through e = absurd (cc)
 
 no_kind : (found : Found) → is_there (seen_row found) ≡ false → kind_of found ≡ None
 no_kind (Here row) e = by row.file e where
-  by : (file : Option File) → is_there (seen_file file) ≡ false → Some (kind file) ≡ None
+  by : (file : Option File) → is_there (seen_file file) ≡ false → Some (kind_of file) ≡ None
   by None e = absurd (cc)
   by (Some f) e = absurd (cc)
 no_kind Missing e = refl
 no_kind Through e = refl
 
-pub look_dir : (t : Table) (ns : List (List ℕ)) → seen_row (met t ns) ≡ ADir → look ns (root t) ≡ Some Dir
-look_dir t ns e = look_resolved ns (root t) ∙ dir_kind (met t ns) e
+pub look_dir : (t : Table) (ns : List (List ℕ)) → seen_row (met t ns) ≡ ADir → kind_below ns (root_row t) ≡ Some Dir
+look_dir t ns e = look_resolved ns (root_row t) ∙ dir_kind (met t ns) e
 
-pub look_none : (t : Table) (ns : List (List ℕ)) → is_there (seen_row (met t ns)) ≡ false → look ns (root t) ≡ None
-look_none t ns e = look_resolved ns (root t) ∙ no_kind (met t ns) e
+pub look_none : (t : Table) (ns : List (List ℕ)) → is_there (seen_row (met t ns)) ≡ false → kind_below ns (root_row t) ≡ None
+look_none t ns e = look_resolved ns (root_row t) ∙ no_kind (met t ns) e
 
 -- below a path that isn't there is nothing
-pub nothing_below : (names q : List (List ℕ)) (row : Taken) → look names row ≡ None → under names q ≡ true → look q row ≡ None
+pub nothing_below : (names q : List (List ℕ)) (row : Taken) → kind_below names row ≡ None → is_at_or_under names q ≡ true → kind_below q row ≡ None
 nothing_below [] q row e u = absurd (cc)
 nothing_below (n ∷ ns) [] row e u = absurd (cc)
 nothing_below (n ∷ ns) (m ∷ q) row e u = by (same_tells m n) row.file e u (nothing_below ns q) where
   Ih : Option Taken → Type 0
-  Ih o = bound o (λ below. look ns below) ≡ None → under ns q ≡ true → bound o (λ below. look q below) ≡ None
+  Ih o = bound o (λ below. kind_below ns below) ≡ None → is_at_or_under ns q ≡ true → bound o (λ below. kind_below q below) ≡ None
 
-  deep : (o : Option Taken) → ((below : Taken) → look ns below ≡ None → under ns q ≡ true → look q below ≡ None)
-      → bound o (λ below. look ns below) ≡ None → under ns q ≡ true → bound o (λ below. look q below) ≡ None
+  deep : (o : Option Taken) → ((below : Taken) → kind_below ns below ≡ None → is_at_or_under ns q ≡ true → kind_below q below ≡ None)
+      → bound o (λ below. kind_below ns below) ≡ None → is_at_or_under ns q ≡ true → bound o (λ below. kind_below q below) ≡ None
   deep None ih e u = refl
   deep (Some below) ih e u = ih below e u
 
-  by : ((same m n ≡ true) × (m ≡ n)) ⊎ ((same m n ≡ false) × (m ≢ n)) → (file : Option File) → into file (bound (find n row.inside) (λ below. look ns below)) ≡ None → same m n && under ns q ≡ true
-      → ((below : Taken) → look ns below ≡ None → under ns q ≡ true → look q below ≡ None) → into file (bound (find m row.inside) (λ below. look q below)) ≡ None
+  by : ((same m n ≡ true) × (m ≡ n)) ⊎ ((same m n ≡ false) × (m ≢ n)) → (file : Option File) → into file (bound (find n row.inside) (λ below. kind_below ns below)) ≡ None → same m n && is_at_or_under ns q ≡ true
+      → ((below : Taken) → kind_below ns below ≡ None → is_at_or_under ns q ≡ true → kind_below q below ≡ None) → into file (bound (find m row.inside) (λ below. kind_below q below)) ≡ None
   by t (Some f) e u ih = refl
   by (inr t) None e u ih = let x = t.0 in let y = rw x at u in absurd (cc)
   by (inl t) None e u ih = let y = rw t.0 at u in rw t.1 (deep (find n row.inside) ih e y)
 
 -- a row with nothing inside, put under a path
-pub makes : (names q : List (List ℕ)) (id : ℕ) (file : Option File) (x : Option Kind) → (under names q ≡ true → x ≡ None)
-    → cond (under names q) (look (rest names q) (record { id = id; file = file; inside = End })) x ≡ cond (is_path names q) (Some (kind file)) x
+pub makes : (names q : List (List ℕ)) (id : ℕ) (file : Option File) (x : Option Kind) → (is_at_or_under names q ≡ true → x ≡ None)
+    → cond (is_at_or_under names q) (kind_below (rest names q) (record { id = id; file = file; inside = End })) x ≡ cond (is_path names q) (Some (kind_of file)) x
 makes [] [] id file x h = refl
 makes [] (m ∷ q) id file x h = by file ∙ sym (h refl) where
   by : (file : Option File) → into file None ≡ None
@@ -109,8 +109,8 @@ makes [] (m ∷ q) id file x h = by file ∙ sym (h refl) where
   by (Some f) = refl
 makes (n ∷ ns) [] id file x h = refl
 makes (n ∷ ns) (m ∷ q) id file x h = by (same m n) h (makes ns q id file x) where
-  by : (b : Bool) → (b && under ns q ≡ true → x ≡ None)
-      → ((under ns q ≡ true → x ≡ None) → cond (under ns q) (look (rest ns q) (record { id = id; file = file; inside = End })) x ≡ cond (is_path ns q) (Some (kind file)) x)
-      → cond (b && under ns q) (look (rest ns q) (record { id = id; file = file; inside = End })) x ≡ cond (b && is_path ns q) (Some (kind file)) x
+  by : (b : Bool) → (b && is_at_or_under ns q ≡ true → x ≡ None)
+      → ((is_at_or_under ns q ≡ true → x ≡ None) → cond (is_at_or_under ns q) (kind_below (rest ns q) (record { id = id; file = file; inside = End })) x ≡ cond (is_path ns q) (Some (kind_of file)) x)
+      → cond (b && is_at_or_under ns q) (kind_below (rest ns q) (record { id = id; file = file; inside = End })) x ≡ cond (b && is_path ns q) (Some (kind_of file)) x
   by true h f = f h
   by false h f = refl

@@ -11,10 +11,10 @@ use Rattle.iris_shape.specs.Local.{either}
 use Rattle.iris_shape.specs.Folds.{Fold, One, Two, folded}
 use Rattle.iris_shape.specs.FoldLaws.{IsFoldOf, Differ}
 use Rattle.iris_table.specs.declared.file.Place.{Place}
-use Rattle.iris_table.specs.Places.{Kept, file_of, version_at, version_of, block_of}
+use Rattle.iris_table.specs.Places.{Kept, file_of, version_at, place_version, block_of}
 use Rattle.iris_table.specs.Records.{Records, looked, spelled}
-use Rattle.iris_table.specs.Shown.{in_blocks, block_in}
-use Rattle.iris_table.specs.Pieces.{Adds, at_place, kept_block, blocks_below, IsHalved, AreApart}
+use Rattle.iris_table.specs.Shown.{in_blocks, block_of_place}
+use Rattle.iris_table.specs.Pieces.{Adds, at_place, kept_block, blocks_below, IsHalved, AreUnequalFolds}
 use Rattle.iris_table.specs.Rows.{File}
 use Rattle.iris_shape.proofs.FoldProofs.{one_fold, folded_same}
 use Rattle.iris_shape.specs.Made.{made_fold}
@@ -31,7 +31,7 @@ no_first : (n : Name) (file : ℕ) (f : File) → blocks_below 0 n file f ≡ No
 no_first (Entry i) file f = refl
 no_first (Part g l i) file f = refl
 no_first (Block g q) file f = by (g.0 == file) (nat_lt q 0) refl where
-  by : (a b : Bool) → nat_lt q 0 ≡ b → cond (a && b) (block_in q f) None ≡ None
+  by : (a b : Bool) → nat_lt q 0 ≡ b → cond (a && b) (block_of_place q f) None ≡ None
   by true true e = absurd (let h : q < 0 = grind (arith, nat_tests) in omega (arith, h))
   by true false e = refl
   by false b e = refl
@@ -39,10 +39,10 @@ no_first (Block g q) file f = by (g.0 == file) (nat_lt q 0) refl where
 pub blocks_begin : (key : List ℕ) (file : ℕ) (f : File) (s : Records) → Adds key (λ n. blocks_below 0 n file f) s s
 blocks_begin key file f s = λ n. ap (λ o. either (option_map (spelled key n) o) (looked n s)) (sym (no_first n file f))
 
-same_place : (f : Kept) (p : ℕ) (place : Place) → slice_get f.places p ≡ Some place → block_in p (file_of f) ≡ kept_block place
+same_place : (f : Kept) (p : ℕ) (place : Place) → slice_get f.places p ≡ Some place → block_of_place p (file_of f) ≡ kept_block place
 same_place f p place e = ap block_of_place e where
   block_of_place : Option Place → Option Unfolded
-  block_of_place o = cond (version_of o == 0) None (Some (Stored (version_of o) (block_of o)))
+  block_of_place o = cond (place_version o == 0) None (Some (Stored (place_version o) (block_of o)))
 
 one_more : (n : Name) (file : ℕ) (f : Kept) (p : ℕ) (place : Place) → slice_get f.places p ≡ Some place
     → either (at_place n file p place) (blocks_below p n file (file_of f)) ≡ blocks_below (p + 1) n file (file_of f)
@@ -50,11 +50,11 @@ one_more (Entry i) file f p place e = refl
 one_more (Part g l i) file f p place e = refl
 one_more (Block g q) file f p place e = by (g.0 == file) (q == p) refl (nat_lt q p) refl (nat_lt q (p + 1)) refl where
   by : (a b : Bool) → (q == p) ≡ b → (c : Bool) → nat_lt q p ≡ c → (d : Bool) → nat_lt q (p + 1) ≡ d
-      → either (cond (a && b) (kept_block place) None) (cond (a && c) (block_in q (file_of f)) None) ≡ cond (a && d) (block_in q (file_of f)) None
+      → either (cond (a && b) (kept_block place) None) (cond (a && c) (block_of_place q (file_of f)) None) ≡ cond (a && d) (block_of_place q (file_of f)) None
   by false b h c k d l = refl
   by true true h true k d l = absurd (let x : q ≡ p = grind (arith, nat_tests) in let y : q < p = grind (arith, nat_tests) in omega (arith, x, y))
   by true true h false k false l = absurd (let x : q ≡ p = grind (arith, nat_tests) in let y : p + 1 ≤ q = grind (arith, nat_tests) in omega (arith, x, y))
-  by true true h false k true l = let x : q ≡ p = grind (arith, nat_tests) in either_none (kept_block place) ∙ sym (same_place f p place e) ∙ ap (λ z. block_in z (file_of f)) (sym x)
+  by true true h false k true l = let x : q ≡ p = grind (arith, nat_tests) in either_none (kept_block place) ∙ sym (same_place f p place e) ∙ ap (λ z. block_of_place z (file_of f)) (sym x)
   by true false h true k true l = refl
   by true false h true k false l = absurd (let y : q < p = grind (arith, nat_tests) in let z : p + 1 ≤ q = grind (arith, nat_tests) in omega (arith, y, z))
   by true false h false k false l = refl
@@ -65,16 +65,16 @@ pub blocks_next : (key : List ℕ) (file : ℕ) (f : Kept) (p : ℕ) (place : Pl
 blocks_next key file f p place a b c e h k =
     adds_same key _ (λ n. blocks_below (p + 1) n file (file_of f)) a c (λ n. one_more n file f p place e) (adds_twice key (λ n. blocks_below p n file (file_of f)) (λ n. at_place n file p place) a b c h k)
 
-past_end : (f : Kept) (q : ℕ) → slice_get f.places q ≡ None → block_in q (file_of f) ≡ None
+past_end : (f : Kept) (q : ℕ) → slice_get f.places q ≡ None → block_of_place q (file_of f) ≡ None
 past_end f q e = ap block_of_place e where
   block_of_place : Option Place → Option Unfolded
-  block_of_place o = cond (version_of o == 0) None (Some (Stored (version_of o) (block_of o)))
+  block_of_place o = cond (place_version o == 0) None (Some (Stored (place_version o) (block_of o)))
 
 pub blocks_all : (n : Name) (file : ℕ) (f : Kept) → blocks_below (length f.places) n file (file_of f) ≡ in_blocks n file (file_of f)
 blocks_all (Entry i) file f = refl
 blocks_all (Part g l i) file f = refl
 blocks_all (Block g q) file f = by (g.0 == file) (nat_lt q (length f.places)) refl where
-  by : (a b : Bool) → nat_lt q (length f.places) ≡ b → cond (a && b) (block_in q (file_of f)) None ≡ cond a (block_in q (file_of f)) None
+  by : (a b : Bool) → nat_lt q (length f.places) ≡ b → cond (a && b) (block_of_place q (file_of f)) None ≡ cond a (block_of_place q (file_of f)) None
   by false b e = refl
   by true true e = refl
   by true false e = sym (past_end f q (let h : length f.places ≤ q = grind (arith, nat_tests) in slice_get_past f.places q h))
@@ -83,7 +83,7 @@ pub blocks_end : (key : List ℕ) (file : ℕ) (f : Kept) (a b : Records) → Ad
 blocks_end key file f a b h = adds_same key (λ n. blocks_below (length f.places) n file (file_of f)) (λ n. in_blocks n file (file_of f)) a b (λ n. blocks_all n file f) h
 
 -- the fold of versions goes down no further than places
-apart_of : (x y : Fold) → Differ x y → AreApart x y
+apart_of : (x y : Fold) → Differ x y → AreUnequalFolds x y
 apart_of (One v) (One w) h = h
 apart_of (One v) (Two x y) h = tt
 apart_of (Two x y) z h = tt

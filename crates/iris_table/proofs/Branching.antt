@@ -14,8 +14,8 @@ use Rattle.iris_shape.specs.Local.{either}
 use Rattle.iris_shape.specs.Order.{beside}
 use Rattle.iris_shape.specs.Treap.{Treap, Empty, Over, treap}
 use Rattle.iris_table.specs.Rows.{File, Rows, End, Row, Table}
-use Rattle.iris_shape.specs.Sides.{side}
-use Rattle.iris_table.specs.Shown.{Own, own_id, versions, entry, entries, owns, directory, entry_in, part_in, in_directory, in_parts, in_file, inside_rows, root_entry, trash_entry, shown}
+use Rattle.iris_shape.specs.Sides.{unfolded_side}
+use Rattle.iris_table.specs.Shown.{Own, own_id, versions, entry_above, unfolded_entries, owns, directory, entry_in, part_in, in_directory, in_parts, in_file, inside_rows, root_entry, trash_entry, shown}
 use Rattle.iris_table.specs.Sound.{IsSound}
 use Rattle.iris_table.specs.Walks.{at_top}
 use Rattle.iris_table.specs.Parents.{OneParent}
@@ -46,33 +46,33 @@ live_here : (a b : ℕ) (w : Unfolded) (o : Option Unfolded) → a ≡ b → IsL
 live_here a b w o e = subst (λ z. IsLive (cond (a == z) (Some w) o)) e (rw (eq_self a) tt)
 
 -- an entry that stands in a directory, or inside one of its entries
-top_live : (n : Name) (own : Own) (file : Option File) (less more : Unfolded) → n ≡ Entry (id_of own.id) → IsLive (in_directory n (entry own file less more))
-top_live n own file less more e = subst (λ z. IsLive (in_directory z (entry own file less more))) (sym e) (by file) where
-  by : (file : Option File) → IsLive (in_directory (Entry (id_of own.id)) (entry own file less more))
-  by None = live_here own.id own.id (entry own None less more) (either (entry_in own.id less) (entry_in own.id more)) refl
-  by (Some f) = live_here own.id own.id (entry own (Some f) less more) (either (entry_in own.id less) (entry_in own.id more)) refl
+top_live : (n : Name) (own : Own) (file : Option File) (less more : Unfolded) → n ≡ Entry (id_of own.id) → IsLive (in_directory n (entry_above own file less more))
+top_live n own file less more e = subst (λ z. IsLive (in_directory z (entry_above own file less more))) (sym e) (by file) where
+  by : (file : Option File) → IsLive (in_directory (Entry (id_of own.id)) (entry_above own file less more))
+  by None = live_here own.id own.id (entry_above own None less more) (either (entry_in own.id less) (entry_in own.id more)) refl
+  by (Some f) = live_here own.id own.id (entry_above own (Some f) less more) (either (entry_in own.id less) (entry_in own.id more)) refl
 
-over_live : (n : Name) (own : Own) (file : Option File) (less more : Unfolded) → IsLive (either (in_directory n less) (in_directory n more)) → IsLive (in_directory n (entry own file less more))
+over_live : (n : Name) (own : Own) (file : Option File) (less more : Unfolded) → IsLive (either (in_directory n less) (in_directory n more)) → IsLive (in_directory n (entry_above own file less more))
 over_live n own file less more h =
-    subst IsLive (directory_over n own file less more) (live_right (at_top n (entry own file less more)) (either (in_directory n less) (in_directory n more)) h)
+    subst IsLive (directory_over n own file less more) (live_right (at_top n (entry_above own file less more)) (either (in_directory n less) (in_directory n more)) h)
 
-held_parts : (w : Unfolded) (n : Name) (k : Nest) (own : Own) (file : Option File) (less more : Unfolded) → Holds w n k (nest (entry own file less more))
+held_parts : (w : Unfolded) (n : Name) (k : Nest) (own : Own) (file : Option File) (less more : Unfolded) → Holds w n k (nest (entry_above own file less more))
     → (n ≡ Entry (id_of own.id)) ⊎ (Holds w n k (nest less) ⊎ (Holds w n k (nest more) ⊎ Holds w n k (inside_by own.id own.inside file)))
 held_parts w n k own None less more h = elim h [ inl s ↦ inl s.1 | inr s ↦ inr s ]
 held_parts w n k own (Some f) less more h = elim h [ inl s ↦ inl s.1 | inr s ↦ inr s ]
 
-entries_live : (w : Unfolded) (n : Name) (k : Nest) (t : Treap Own) → Holds w n k (nest (entries t)) → IsLive (in_directory n (entries t)) ⊎ Some_in (λ o. Holds w n k (inside_own o)) t
+entries_live : (w : Unfolded) (n : Name) (k : Nest) (t : Treap Own) → Holds w n k (nest (unfolded_entries t)) → IsLive (in_directory n (unfolded_entries t)) ⊎ Some_in (λ o. Holds w n k (inside_own o)) t
 entries_live w n k Empty h = absurd h
-entries_live w n k (Over o l m) h = elim (held_parts w n k o o.file (entries l) (entries m) h) [
-  | inl s ↦ inl (top_live n o o.file (entries l) (entries m) s)
+entries_live w n k (Over o l m) h = elim (held_parts w n k o o.file (unfolded_entries l) (unfolded_entries m) h) [
+  | inl s ↦ inl (top_live n o o.file (unfolded_entries l) (unfolded_entries m) s)
   | inr s ↦ elim s [
     | inl a ↦ elim (entries_live w n k l a) [
-      | inl b ↦ inl (over_live n o o.file (entries l) (entries m) (live_left (in_directory n (entries l)) (in_directory n (entries m)) b))
+      | inl b ↦ inl (over_live n o o.file (unfolded_entries l) (unfolded_entries m) (live_left (in_directory n (unfolded_entries l)) (in_directory n (unfolded_entries m)) b))
       | inr b ↦ inr (inr (inl b))
     ]
     | inr r ↦ elim r [
       | inl a ↦ elim (entries_live w n k m a) [
-        | inl b ↦ inl (over_live n o o.file (entries l) (entries m) (live_right (in_directory n (entries l)) (in_directory n (entries m)) b))
+        | inl b ↦ inl (over_live n o o.file (unfolded_entries l) (unfolded_entries m) (live_right (in_directory n (unfolded_entries l)) (in_directory n (unfolded_entries m)) b))
         | inr b ↦ inr (inr (inr b))
       ]
       | inr a ↦ inr (inl a)
@@ -101,10 +101,10 @@ part_high file level index low high (Part g l i) h =
 part_high file level index low high (Entry i) h = h
 part_high file level index low high (Block g p) h = h
 
-side_live : (w : Unfolded) (n : Name) (k : Nest) (file level index : ℕ) (x : Fold) → Holds w n k (nest (side file level index x)) → IsPartOf file (side file level index x) n
+side_live : (w : Unfolded) (n : Name) (k : Nest) (file level index : ℕ) (x : Fold) → Holds w n k (nest (unfolded_side file level index x)) → IsPartOf file (unfolded_side file level index x) n
 side_live w n k file level index (One v) h = absurd h
 side_live w n k file level index (Two x y) h =
-    let low = side file (level - 1) (2 * index) x in let high = side file (level - 1) (2 * index + 1) y in
+    let low = unfolded_side file (level - 1) (2 * index) x in let high = unfolded_side file (level - 1) (2 * index + 1) y in
     elim h [
       | inl s ↦ subst (IsPartOf file (Split file level index low high)) (sym s.1) (refl, split_live file level index low high)
       | inr r ↦ elim r [

@@ -14,10 +14,10 @@ use Rattle.iris_table.specs.declared.challenge.Met.TheVariants.{Block, Past}
 use Rattle.iris_table.specs.declared.item.Item.{Item}
 use Rattle.iris_table.specs.Items.{kept_file, IsForest}
 use Rattle.iris_table.specs.declared.file.Place.{Place}
-use Rattle.iris_table.specs.Places.{Kept, IsKept, file_of, version_at, version_of}
+use Rattle.iris_table.specs.Places.{Kept, IsKept, file_of, version_at, place_version}
 use Rattle.iris_table.specs.Rows.{File}
 use Rattle.iris_table.specs.Stops.{table_over}
-use Rattle.iris_table.specs.Strides.{own_file, files_of, blocks_of_all, Meets}
+use Rattle.iris_table.specs.Strides.{own_file, files_of, blocks_of_all, WalkMeets}
 use Rattle.iris_table.proofs.Striding.{blocks_joined, walk_is, file_stands}
 
 abbrev Files : Type 0
@@ -34,17 +34,17 @@ slice_left (y ∷ xs) ys zero x e = e
 slice_left (y ∷ xs) ys (suc n) x e = slice_left xs ys n x e
 
 -- a block among the first files
-pub meets_left : (a b : Files) (at : ℕ) (file : FileId) (place version : ℕ) → Meets a at (Block file place version) → Meets (a ++ b) at (Block file place version)
+pub meets_left : (a b : Files) (at : ℕ) (file : FileId) (place version : ℕ) → WalkMeets a at (Block file place version) → WalkMeets (a ++ b) at (Block file place version)
 meets_left a b at file place version (f, c, s, v) =
     (f, Contains-append_left a b (file.0, f) c, ap (λ z. slice_get z at) (blocks_joined a b) ∙ slice_left (blocks_of_all a) (blocks_of_all b) at _ s, v)
 
 -- what is met past the first files
-pub meets_right : (a b : Files) (at m : ℕ) (r : Met) → at ≡ length (blocks_of_all a) + m → Meets b m r → Meets (a ++ b) at r
+pub meets_right : (a b : Files) (at m : ℕ) (r : Met) → at ≡ length (blocks_of_all a) + m → WalkMeets b m r → WalkMeets (a ++ b) at r
 meets_right a b at m (Block file place version) e (f, c, s, v) =
     (f, Contains-append_right a b (file.0, f) c, ap (λ z. slice_get z at) (blocks_joined a b) ∙ slice_right (blocks_of_all a) (blocks_of_all b) at m e ∙ s, v)
 meets_right a b at m (Past more) e h = let l = ap length (blocks_joined a b) ∙ length-append (blocks_of_all a) (blocks_of_all b) in omega (arith, e, h, l)
 
-pub meets_first : (a b : Files) (at : ℕ) (m : Met) → ((more : ℕ) → m ≡ Past more → ⊥) → Meets a at m → Meets (a ++ b) at m
+pub meets_first : (a b : Files) (at : ℕ) (m : Met) → ((more : ℕ) → m ≡ Past more → ⊥) → WalkMeets a at m → WalkMeets (a ++ b) at m
 meets_first a b at (Block file place version) n h = meets_left a b at file place version h
 meets_first a b at (Past more) n h = absurd (n more refl)
 
@@ -59,38 +59,38 @@ own_block id f place h =
     ∙ ap Some (get_or-map-range_with_len at 0 (block_count f.size) place place (at 0) h (omega arith))
 
 -- past a directory
-pub step_inside : (item : Item) (rest : List Item) (left : ℕ) (r : Met) → item.file ≡ None → Meets (files_of rest) left r → Meets (files_of (item ∷ rest)) left r
-step_inside item rest left r e h = subst (λ z. Meets (own_file item.id.0 (kept_file z) ++ files_of rest) left r) (sym e) h
+pub step_inside : (item : Item) (rest : List Item) (left : ℕ) (r : Met) → item.file ≡ None → WalkMeets (files_of rest) left r → WalkMeets (files_of (item ∷ rest)) left r
+step_inside item rest left r e h = subst (λ z. WalkMeets (own_file item.id.0 (kept_file z) ++ files_of rest) left r) (sym e) h
 
 module _ (item : Item) (rest : List Item) (places : List Place) (left : ℕ) where
   -- past a file
   pub step_past : (k : Kept) (r : Met) → item.file ≡ Some k → IsKept k → places ≡ k.places → length places ≤ left
-      → Meets (files_of rest) (left - length places) r → Meets (files_of (item ∷ rest)) left r
+      → WalkMeets (files_of rest) (left - length places) r → WalkMeets (files_of (item ∷ rest)) left r
   step_past k r e kept p h m =
       let n : length (blocks_of_all ((item.id.0, file_of k) ∷ [])) ≡ length places = own_length item.id.0 (file_of k) ∙ sym (ap length p ∙ kept.places) in
-      subst (λ z. Meets (own_file item.id.0 (kept_file z) ++ files_of rest) left r) (sym e)
+      subst (λ z. WalkMeets (own_file item.id.0 (kept_file z) ++ files_of rest) left r) (sym e)
       (meets_right ((item.id.0, file_of k) ∷ []) (files_of rest) left (left - length places) r (omega (arith, n, h)) m)
 
   -- at a block of a file
   pub step_here : (k : Kept) (d : Place) → item.file ≡ Some k → IsKept k → places ≡ k.places → left < length places
-      → Meets (files_of (item ∷ rest)) left (Block item.id left (get_or places left d).version)
+      → WalkMeets (files_of (item ∷ rest)) left (Block item.id left (get_or places left d).version)
   step_here k d e kept p h =
       let n : length places ≡ block_count k.size = ap length p ∙ kept.places in
-      let v : (get_or places left d).version ≡ version_at k.places left = sym (ap (λ z. version_of (slice_get z left)) (sym p) ∙ ap version_of (slice_get-get_or places left d h)) in
-      subst (λ z. Meets (own_file item.id.0 (kept_file z) ++ files_of rest) left (Block item.id left (get_or places left d).version)) (sym e)
+      let v : (get_or places left d).version ≡ version_at k.places left = sym (ap (λ z. place_version (slice_get z left)) (sym p) ∙ ap place_version (slice_get-get_or places left d h)) in
+      subst (λ z. WalkMeets (own_file item.id.0 (kept_file z) ++ files_of rest) left (Block item.id left (get_or places left d).version)) (sym e)
       (meets_left ((item.id.0, file_of k) ∷ []) (files_of rest) left item.id left (get_or places left d).version
       (file_of k, (0, omega arith, refl), own_block item.id.0 (file_of k) left (omega (arith, n, h)), v))
 
 -- the reply for what is met
 pub probed : (order : List ℕ) (visible trash : List Item) (next age at : ℕ) (file : FileId) (place version : ℕ) → IsForest visible → IsForest trash
-    → Meets (files_of visible ++ files_of trash) at (Block file place version)
+    → WalkMeets (files_of visible ++ files_of trash) at (Block file place version)
     → IsProbed (table_over visible trash next age) (slice_get (table_walk order (table_over visible trash next age)) at) (Probed file place version)
 probed order visible trash next age at file place version f g (c, among, is, v) =
     subst (λ z. IsProbed (table_over visible trash next age) z (Probed file place version)) (sym (ap (λ z. slice_get z at) (walk_is order visible trash next age f g) ∙ is))
     (c, file_stands visible trash next age file.0 c f g among, ap (λ z. Probed file place z) v)
 
 pub not_found : (order : List ℕ) (visible trash : List Item) (next age at more : ℕ) → IsForest visible → IsForest trash
-    → Meets (files_of visible ++ files_of trash) at (Past more)
+    → WalkMeets (files_of visible ++ files_of trash) at (Past more)
     → IsProbed (table_over visible trash next age) (slice_get (table_walk order (table_over visible trash next age)) at) (Plain NotFound)
 not_found order visible trash next age at more f g h =
     subst (λ z. IsProbed (table_over visible trash next age) z (Plain NotFound))

@@ -8,7 +8,7 @@ use Rattle.iris_table.specs.declared.rows.Stop.{Stop}
 use Rattle.iris_table.specs.declared.rows.Stop.TheVariants.{Standing, Absent, Barred}
 use Rattle.iris_table.specs.Places.{Kept}
 use Rattle.iris_table.specs.Items.{grown, kept_file}
-use Rattle.iris_table.specs.Rows.{File, Rows, End, Row, without, at, file_at}
+use Rattle.iris_table.specs.Rows.{File, Rows, End, Row, without_row, at, file_at}
 use Rattle.iris_table.specs.Stops.{stop, later, passed}
 
 pub lt_true : (a b : ℕ) → a < b → nat_lt a b ≡ true
@@ -90,7 +90,7 @@ change_inside d change deep i old new h p c = record {
 pub record IsByName (change : List ℕ → Rows → Rows) : Type 0 where
   pub passes : (n : List ℕ) (i : Item) (inside next : Rows) → bytes_eq n i.name ≡ false → change n (row_of i inside next) ≡ row_of i inside (change n next)
 
-pub by_without : IsByName without
+pub by_without : IsByName without_row
 unfolding row_of
 by_without = record { passes = λ n i inside next e. rw e refl }
 

@@ -3,10 +3,10 @@ use Rattle.std.proofs.lemmas.List.{get_or-take, get_or-drop, get_or_append_left,
 use Rattle.std.proofs.lemmas.Bool.Decides.{nat_tests}
 use Rattle.std.specs.Prelude.{nat_lt, replicate, min}
 use Rattle.iris_plain.specs.Files.{wrote}
-use Rattle.iris_table.specs.Sound.{ArePages, byte_at, IsGood}
+use Rattle.iris_table.specs.Sound.{ArePages, content_byte, IsGood}
 use Rattle.iris_plain.specs.Checks.{blocks_of}
 use Rattle.iris_table.specs.Rows.{File}
-use Rattle.iris_table.specs.Changes.{merged, is_touched, written}
+use Rattle.iris_table.specs.Changes.{merged, is_touched, file_written}
 use Rattle.iris_table.specs.View.{joined, content}
 
 div_next : (i : ℕ) → 4096 ≤ i → 1 + (i - 4096) / 4096 ≡ i / 4096
@@ -41,7 +41,7 @@ get_or-joined block from (suc n) i d h l = by (less_or i 4096) (get_or-joined bl
 pub length-content : (f : File) → ArePages f.block → length (content f) ≡ f.size
 length-content f h = omega (arith, length-take f.size (joined f.block 0 (blocks_of f.size)), length-joined f.block 0 (blocks_of f.size) h)
 
-pub get_or-content : (f : File) (i : ℕ) → ArePages f.block → i < f.size → get_or (content f) i 0 ≡ byte_at f.block i
+pub get_or-content : (f : File) (i : ℕ) → ArePages f.block → i < f.size → get_or (content f) i 0 ≡ content_byte f.block i
 get_or-content f i h l = get_or-take f.size _ i 0 l ∙ get_or-joined f.block 0 (blocks_of f.size) i 0 h (omega arith)
     ∙ ap (λ a. get_or (f.block a) (i % 4096) 0) (zero_add (i / 4096))
   where
@@ -49,9 +49,9 @@ get_or-content f i h l = get_or-take f.size _ i 0 l ∙ get_or-joined f.block 0 
     zero_add a = omega arith
 
 -- the bytes of a file, whatever its size: zeros past its end
-pub get_or-content_all : (f : File) (i : ℕ) → ArePages f.block → ((i : ℕ) → f.size ≤ i → byte_at f.block i ≡ 0) → get_or (content f) i 0 ≡ byte_at f.block i
+pub get_or-content_all : (f : File) (i : ℕ) → ArePages f.block → ((i : ℕ) → f.size ≤ i → content_byte f.block i ≡ 0) → get_or (content f) i 0 ≡ content_byte f.block i
 get_or-content_all f i h t = by (less_or i f.size) where
-  by : (i < f.size) ⊎ (f.size ≤ i) → get_or (content f) i 0 ≡ byte_at f.block i
+  by : (i < f.size) ⊎ (f.size ≤ i) → get_or (content f) i 0 ≡ content_byte f.block i
   by (inl l) = get_or-content f i h l
   by (inr g) = get_or_past (content f) i 0 (omega (arith, length-content f h)) ∙ sym (t i g)
 
@@ -138,13 +138,13 @@ touched offset n p z e = let k : (offset / 4096 ≤ p) × (p ≤ (offset + n - 1
 untouched : (offset n p : ℕ) → 0 < n → is_touched offset n p ≡ false → (p * 4096 + 4096 ≤ offset) ⊎ (offset + n ≤ p * 4096)
 untouched offset n p z e = let k : (p < offset / 4096) ⊎ ((offset + n - 1) / 4096 < p) = grind (arith, nat_tests) in elim k [ inl a ↦ inl (omega arith) | inr b ↦ inr (omega arith) ]
 
-written_byte : (offset : ℕ) (bytes : List ℕ) (f : File) (i : ℕ) → 0 < length bytes → ArePages f.block → ((i : ℕ) → f.size ≤ i → byte_at f.block i ≡ 0)
-    → byte_at (written offset bytes f).block i ≡ get_or (wrote offset bytes (content f)) i 0
+written_byte : (offset : ℕ) (bytes : List ℕ) (f : File) (i : ℕ) → 0 < length bytes → ArePages f.block → ((i : ℕ) → f.size ≤ i → content_byte f.block i ≡ 0)
+    → content_byte (file_written offset bytes f).block i ≡ get_or (wrote offset bytes (content f)) i 0
 written_byte offset bytes f i z h t = by (is_touched offset (length bytes) (i / 4096)) refl (less_or i offset) (less_or i (offset + length bytes)) where
   at : i / 4096 * 4096 + i % 4096 ≡ i
   at = omega arith
 
-  same : get_or (content f) i 0 ≡ byte_at f.block i
+  same : get_or (content f) i 0 ≡ content_byte f.block i
   same = get_or-content_all f i h t
 
   by : (b : Bool) → is_touched offset (length bytes) (i / 4096) ≡ b → (i < offset) ⊎ (offset ≤ i) → (i < offset + length bytes) ⊎ (offset + length bytes ≤ i)
@@ -158,22 +158,22 @@ written_byte offset bytes f i z h t = by (is_touched offset (length bytes) (i / 
   by false e (inr g) (inl l) = elim (untouched offset (length bytes) (i / 4096) z e) [ inl a ↦ absurd (omega (arith, at)) | inr b ↦ absurd (omega (arith, at)) ]
   by false e (inr g) (inr r) = sym same ∙ sym (wrote_after offset bytes (content f) i r)
 
-pub written_pages : (offset : ℕ) (bytes : List ℕ) (f : File) → 0 < length bytes → ArePages f.block → ArePages (written offset bytes f).block
+pub written_pages : (offset : ℕ) (bytes : List ℕ) (f : File) → 0 < length bytes → ArePages f.block → ArePages (file_written offset bytes f).block
 written_pages offset bytes f z h p = by (is_touched offset (length bytes) p) refl where
   by : (b : Bool) → is_touched offset (length bytes) p ≡ b → length (cond b (merged offset bytes p (f.block p)) (f.block p)) ≡ 4096
   by true e = let k = touched offset (length bytes) p z e in length-merged offset bytes p (f.block p) (h p) k.0 k.1
   by false e = h p
 
-pub content-written : (offset : ℕ) (bytes : List ℕ) (f : File) → 0 < length bytes → IsGood (Some f) → content (written offset bytes f) ≡ wrote offset bytes (content f)
-content-written offset bytes f z g = ext_get_or 0 _ _ long (λ i l. get_or-content (written offset bytes f) i pages (omega (arith, length-content (written offset bytes f) pages)) ∙ written_byte offset bytes f i z g.0 g.1) where
-  pages : ArePages (written offset bytes f).block
+pub content-written : (offset : ℕ) (bytes : List ℕ) (f : File) → 0 < length bytes → IsGood (Some f) → content (file_written offset bytes f) ≡ wrote offset bytes (content f)
+content-written offset bytes f z g = ext_get_or 0 _ _ long (λ i l. get_or-content (file_written offset bytes f) i pages (omega (arith, length-content (file_written offset bytes f) pages)) ∙ written_byte offset bytes f i z g.0 g.1) where
+  pages : ArePages (file_written offset bytes f).block
   pages = written_pages offset bytes f z g.0
 
-  long : length (content (written offset bytes f)) ≡ length (wrote offset bytes (content f))
-  long = length-content (written offset bytes f) pages ∙ ap (λ n. cond (nat_lt n (offset + length bytes)) (offset + length bytes) n) (sym (length-content f g.0)) ∙ sym (length-wrote offset bytes (content f))
+  long : length (content (file_written offset bytes f)) ≡ length (wrote offset bytes (content f))
+  long = length-content (file_written offset bytes f) pages ∙ ap (λ n. cond (nat_lt n (offset + length bytes)) (offset + length bytes) n) (sym (length-content f g.0)) ∙ sym (length-wrote offset bytes (content f))
 
 -- and what is written stays good
-pub good-written : (offset : ℕ) (bytes : List ℕ) (f : File) → 0 < length bytes → IsGood (Some f) → IsGood (Some (written offset bytes f))
+pub good-written : (offset : ℕ) (bytes : List ℕ) (f : File) → 0 < length bytes → IsGood (Some f) → IsGood (Some (file_written offset bytes f))
 good-written offset bytes f z g = (written_pages offset bytes f z g.0, λ i l. written_byte offset bytes f i z g.0 g.1 ∙ get_or_past (wrote offset bytes (content f)) i 0 (omega (arith, long, l))) where
   long : length (wrote offset bytes (content f)) ≡ cond (nat_lt f.size (offset + length bytes)) (offset + length bytes) f.size
   long = length-wrote offset bytes (content f) ∙ ap (λ n. cond (nat_lt n (offset + length bytes)) (offset + length bytes) n) (length-content f g.0)

@@ -17,9 +17,9 @@ use Rattle.iris_shape.specs.Treap.{Treap, Empty, Over, treap}
 use Rattle.iris_shape.proofs.FoldProofs.{of_low, of_high}
 use Rattle.iris_table.specs.Pieces.{IsHalved}
 use Rattle.iris_table.specs.Rows.{File, Rows, End, Row}
-use Rattle.iris_shape.specs.Sides.{side}
-use Rattle.iris_table.specs.Shown.{Own, own_id, versions, entry, entries, owns, directory}
-use Rattle.iris_table.specs.Sound.{times}
+use Rattle.iris_shape.specs.Sides.{unfolded_side}
+use Rattle.iris_table.specs.Shown.{Own, own_id, versions, entry_above, unfolded_entries, owns, directory}
+use Rattle.iris_table.specs.Sound.{times_given}
 use Rattle.iris_table.proofs.Blocking.{folded_halved}
 use Rattle.iris_table.proofs.Nesting.{Nest, many, nest}
 use Rattle.iris_table.proofs.Sorting.{sum_in, sum_row, sum_treap}
@@ -54,7 +54,7 @@ apart : (level index p : ℕ) → IsUnder level (2 * index) p → IsUnder level 
 apart level index p a b = let x = a.to in let y = b.from in omega (arith, x, y)
 
 abbrev parts : FileId → ℕ → ℕ → ℕ → ℕ → ℕ → Fold → ℕ
-parts f l i file level index x = many (Part f l i) (nest (side file level index x))
+parts f l i file level index x = many (Part f l i) (nest (unfolded_side file level index x))
 
 once_by : (f : FileId) (l i file level index a b : ℕ) → 1 ≤ level → (a ≤ 1) × (1 ≤ a → IsWithin f l i file (level - 1) (2 * index)) → (b ≤ 1) × (1 ≤ b → IsWithin f l i file (level - 1) (2 * index + 1))
     → (c : Bool) → ((f.0 == file) && ((l == level) && (i == index))) ≡ c → (cond c 1 0 + (a + b) ≤ 1) × (1 ≤ cond c 1 0 + (a + b) → IsWithin f l i file level index)
@@ -79,11 +79,11 @@ parts_once f l i file level index (Two x y) h =
     once_by f l i file level index (parts f l i file (level - 1) (2 * index) x) (parts f l i file (level - 1) (2 * index + 1) y) h.0
     (parts_once f l i file (level - 1) (2 * index) x h.2) (parts_once f l i file (level - 1) (2 * index + 1) y h.3) (same_name (Part f l i) (Part (id_of file) level index)) refl
 
-no_entry : (j : FileId) (file level index : ℕ) (x : Fold) → many (Entry j) (nest (side file level index x)) ≡ 0
+no_entry : (j : FileId) (file level index : ℕ) (x : Fold) → many (Entry j) (nest (unfolded_side file level index x)) ≡ 0
 no_entry j file level index (One v) = refl
 no_entry j file level index (Two x y) = let a = no_entry j file (level - 1) (2 * index) x in let b = no_entry j file (level - 1) (2 * index + 1) y in omega (arith, a, b)
 
-no_block : (g : FileId) (p file level index : ℕ) (x : Fold) → many (Block g p) (nest (side file level index x)) ≡ 0
+no_block : (g : FileId) (p file level index : ℕ) (x : Fold) → many (Block g p) (nest (unfolded_side file level index x)) ≡ 0
 no_block g p file level index (One v) = refl
 no_block g p file level index (Two x y) = let a = no_block g p file (level - 1) (2 * index) x in let b = no_block g p file (level - 1) (2 * index + 1) y in omega (arith, a, b)
 
@@ -101,14 +101,14 @@ abbrev weight : Name → Own → ℕ
 weight n own = cond (same_name n (Entry (id_of own.id))) 1 0 + many n (inside_own own)
 
 many_entry : (n : Name) (own : Own) (file : Option File) (less more : Unfolded)
-    → many n (nest (entry own file less more)) ≡ cond (same_name n (Entry (id_of own.id))) 1 0 + (many n (nest less) + (many n (nest more) + many n (inside_by own.id own.inside file)))
+    → many n (nest (entry_above own file less more)) ≡ cond (same_name n (Entry (id_of own.id))) 1 0 + (many n (nest less) + (many n (nest more) + many n (inside_by own.id own.inside file)))
 many_entry n own None less more = refl
 many_entry n own (Some f) less more = refl
 
-many_treap : (n : Name) (t : Treap Own) → many n (nest (entries t)) ≡ sum_in (weight n) t
+many_treap : (n : Name) (t : Treap Own) → many n (nest (unfolded_entries t)) ≡ sum_in (weight n) t
 many_treap n Empty = refl
 many_treap n (Over o l m) =
-    let e = many_entry n o o.file (entries l) (entries m) in let a = many_treap n l in let b = many_treap n m in omega (arith, e, a, b)
+    let e = many_entry n o o.file (unfolded_entries l) (unfolded_entries m) in let a = many_treap n l in let b = many_treap n m in omega (arith, e, a, b)
 
 equal_one : (a b : ℕ) → a ≡ b → 1 ≤ cond (a == b) 1 0
 equal_one a b e = by (a == b) refl where
@@ -131,7 +131,7 @@ dir_weight (Entry j) id = omega arith
 dir_weight (Part g l i) id = omega arith
 dir_weight (Block g p) id = omega arith
 
-many_owns : (order : List ℕ) (n : Name) (rows : Rows) → sum_row (weight n) (owns order rows) ≤ times (number n) rows
+many_owns : (order : List ℕ) (n : Name) (rows : Rows) → sum_row (weight n) (owns order rows) ≤ times_given (number n) rows
 many_owns order n End = omega arith
 many_owns order n (Row id name None inside next) =
     let e = many_treap n (treap (beside (priority order) own_id) (owns order inside)) in
@@ -140,7 +140,7 @@ many_owns order n (Row id name None inside next) =
 many_owns order n (Row id name (Some f) inside next) = let b = many_owns order n next in let c = file_weight n id f in omega (arith, b, c)
 
 -- a name stands in a directory no more often than its number does among the rows
-pub many_rows : (order : List ℕ) (n : Name) (rows : Rows) → many n (nest (directory order rows)) ≤ times (number n) rows
+pub many_rows : (order : List ℕ) (n : Name) (rows : Rows) → many n (nest (directory order rows)) ≤ times_given (number n) rows
 unfolding directory
 many_rows order n rows =
     let e = many_treap n (treap (beside (priority order) own_id) (owns order rows)) in

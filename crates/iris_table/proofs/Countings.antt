@@ -4,7 +4,7 @@ use Rattle.std.specs.Prelude.{not, nat_le, nat_lt, ◌==◌}
 use Rattle.std.proofs.lemmas.Bool.Decides.{nat_tests}
 use Rattle.iris_plain.specs.Checks.{blocks_of}
 use Rattle.iris_table.specs.Rows.{File, zeros, empty_file}
-use Rattle.iris_table.specs.Changes.{merged, is_touched, written, is_split, cut, filled, freed}
+use Rattle.iris_table.specs.Changes.{merged, is_touched, file_written, is_split, cut, count_written, freed}
 use Rattle.iris_table.specs.Sound.{IsCounted, IsGood}
 use Rattle.iris_table.proofs.Resize.{length-zeros, zeros_at}
 
@@ -25,7 +25,7 @@ touches_within offset n p h e = let k : p ≤ (offset + n - 1) / 4096 = within (
   within true false x e = absurd (cc)
   within false b x e = absurd (cc)
 
-pub counted_written : (age offset : ℕ) (bytes : List ℕ) (f : File) → 0 < length bytes → IsCounted age f → IsCounted (age + 1) (written offset bytes f)
+pub counted_written : (age offset : ℕ) (bytes : List ℕ) (f : File) → 0 < length bytes → IsCounted age f → IsCounted (age + 1) (file_written offset bytes f)
 counted_written age offset bytes f l c = record {
   version = λ p. either_version (is_touched offset (length bytes) p) _ _ (λ v. v ≤ f.counter + 1) (omega arith) (let h = c.version p in omega (arith, h));
   counter = (let h = c.counter in omega (arith, h));
@@ -76,17 +76,17 @@ counted_cut age size f c = record {
 
 pub counted_freed : (age : ℕ) (f : File) → IsCounted age f → IsCounted age (freed f)
 counted_freed age f c = record {
-  version = λ p. either_version (nat_lt (filled f.version p) 16) _ _ (λ v. v ≤ f.counter) (omega arith) (c.version p);
+  version = λ p. either_version (nat_lt (count_written f.version p) 16) _ _ (λ v. v ≤ f.counter) (omega arith) (c.version p);
   counter = c.counter;
-  past = λ p h. either_version (nat_lt (filled f.version p) 16) _ _ (λ v. v ≡ 0) refl (c.past p h);
-  hole = λ p h. by_hole p (nat_lt (filled f.version p) 16) h;
+  past = λ p h. either_version (nat_lt (count_written f.version p) 16) _ _ (λ v. v ≡ 0) refl (c.past p h);
+  hole = λ p h. by_hole p (nat_lt (count_written f.version p) 16) h;
 } where
   by_hole : (p : ℕ) (b : Bool) → cond b 0 (f.version p) ≡ 0 → cond b zeros (f.block p) ≡ zeros
   by_hole p true h = refl
   by_hole p false h = c.hole p h
 
 pub good_freed : (f : File) → IsGood (Some f) → IsGood (Some (freed f))
-good_freed f g = (λ p. pages p (nat_lt (filled f.version p) 16), λ i h. tail i h (nat_lt (filled f.version (i / 4096)) 16)) where
+good_freed f g = (λ p. pages p (nat_lt (count_written f.version p) 16), λ i h. tail i h (nat_lt (count_written f.version (i / 4096)) 16)) where
   pages : (p : ℕ) (b : Bool) → length (cond b zeros (f.block p)) ≡ 4096
   pages p true = length-zeros
   pages p false = g.0 p

@@ -12,7 +12,7 @@ use Rattle.iris_name.specs.declared.name.Name.{Name}
 use Rattle.iris_name.specs.declared.name.Name.TheVariants.{Entry, Part, Block}
 use Rattle.iris_node.specs.Rules.{IsFileName, in_name}
 use Rattle.iris_node.specs.Spelling.{spelling}
-use Rattle.iris_node.specs.Unfolded.{Unfolded, Absent, Folder, Leaf, Even, Split, Stored, hash, link_to, node_of, blocks, spelled as node_spelled}
+use Rattle.iris_node.specs.Unfolded.{Unfolded, Absent, Folder, Leaf, Even, Split, Stored, hash, link_to, node_of, blocks, spelled_node as node_spelled}
 use Rattle.iris_node.specs.declared.node.Link.{Link}
 use Rattle.iris_node.specs.declared.node.Node.{Node}
 use Rattle.iris_node.specs.declared.node.Node.TheVariants.{Entry as Entry-node}
@@ -21,7 +21,7 @@ use Rattle.iris_shape.specs.declared.rows.Row.{Row}
 use Rattle.iris_table.specs.declared.records.Told.{Told}
 use Rattle.iris_table.specs.Rows.{File}
 use Rattle.iris_table.specs.Records.{Records, looked, spelled}
-use Rattle.iris_table.specs.Shown.{Own, entry, entry_in, in_directory}
+use Rattle.iris_table.specs.Shown.{Own, entry_above, entry_in, in_directory}
 use Rattle.iris_table.specs.Sound.{is_step, has_no_slash}
 use Rattle.iris_table.specs.Pieces.{Adds}
 use Rattle.iris_table.specs.Walks.{at_top, link_blocks, row_of, told_by, own_at}
@@ -84,51 +84,51 @@ blocks_linked (Stored v b) = refl
 abbrev pub made_node : Row → Told → Option Link → Option Link → Node
 made_node row t left right = Entry-node (record { id = row.id; name = row.name; left = left; right = right; body = t.body })
 
-node_base : (own : Own) (file : Option File) (less more : Unfolded) → node_of (entry own file less more) ≡ Some (made_node (row_of own) (told_by own file) (link_to less (node_of less)) (link_to more (node_of more)))
+node_base : (own : Own) (file : Option File) (less more : Unfolded) → node_of (entry_above own file less more) ≡ Some (made_node (row_of own) (told_by own file) (link_to less (node_of less)) (link_to more (node_of more)))
 unfolding node_of
 node_base own None less more = refl
 node_base own (Some f) less more = refl
 
 -- the node that the program makes of an entry
 pub node_is : (own : Own) (file : Option File) (less more : Unfolded) (row : Row) (t : Told) (left right : Option Link) → row ≡ row_of own → t ≡ told_by own file
-    → left ≡ link_to less (node_of less) → right ≡ link_to more (node_of more) → node_of (entry own file less more) ≡ Some (made_node row t left right)
+    → left ≡ link_to less (node_of less) → right ≡ link_to more (node_of more) → node_of (entry_above own file less more) ≡ Some (made_node row t left right)
 node_is own file less more row t left right e f g h =
     node_base own file less more
     ∙ sym (ap (λ z. Some (made_node z t left right)) e ∙ ap (λ z. Some (made_node (row_of own) z left right)) f
     ∙ ap (λ z. Some (made_node (row_of own) (told_by own file) z right)) g ∙ ap (λ z. Some (made_node (row_of own) (told_by own file) (link_to less (node_of less)) z)) h)
 
-blocks_sum : (own : Own) (file : Option File) (less more : Unfolded) → blocks less + ((told_by own file).blocks + blocks more) ≡ blocks (entry own file less more)
+blocks_sum : (own : Own) (file : Option File) (less more : Unfolded) → blocks less + ((told_by own file).blocks + blocks more) ≡ blocks (entry_above own file less more)
 blocks_sum own None less more = refl
 blocks_sum own (Some f) less more = refl
 
 -- the link that the program makes to it
 pub link_is : (own : Own) (file : Option File) (less more : Unfolded) (row : Row) (t : Told) (left right : Option Link) (h : _) (n : ℕ) → row ≡ row_of own → t ≡ told_by own file
     → left ≡ link_to less (node_of less) → right ≡ link_to more (node_of more) → h ≡ hash (made_node row t left right) → n ≡ link_blocks left + (t.blocks + link_blocks right)
-    → Some (record { id = row.id; hash = h; blocks = n }) ≡ link_to (entry own file less more) (node_of (entry own file less more))
+    → Some (record { id = row.id; hash = h; blocks = n }) ≡ link_to (entry_above own file less more) (node_of (entry_above own file less more))
 link_is own file less more row t left right h n e f g k p q =
-    let b : n ≡ blocks (entry own file less more)
+    let b : n ≡ blocks (entry_above own file less more)
     = (q ∙ ap (λ z. link_blocks z + (t.blocks + link_blocks right)) g ∙ ap (λ z. z + (t.blocks + link_blocks right)) (blocks_linked less)
     ∙ ap (λ z. blocks less + (t.blocks + link_blocks z)) k ∙ ap (λ z. blocks less + (t.blocks + z)) (blocks_linked more)
     ∙ ap (λ z. blocks less + (z.blocks + blocks more)) f ∙ blocks_sum own file less more) in
     ap (λ z. Some (record { id = row.id; hash = z; blocks = n })) p ∙ ap (λ z. Some (record { id = row.id; hash = hash (made_node row t left right); blocks = z })) b
-    ∙ sym (ap (link_to (entry own file less more)) (node_is own file less more row t left right e f g k))
+    ∙ sym (ap (link_to (entry_above own file less more)) (node_is own file less more row t left right e f g k))
 
-top_shape : (n : Name) (id : FileId) (own : Own) (file : Option File) (less more : Unfolded) → id.0 ≡ own.id → cond (same_name n (Entry id)) (Some (entry own file less more)) None ≡ at_top n (entry own file less more)
-top_shape (Entry i) id own None less more e = ap (λ z. cond (i.0 == z) (Some (entry own None less more)) None) e
-top_shape (Entry i) id own (Some f) less more e = ap (λ z. cond (i.0 == z) (Some (entry own (Some f) less more)) None) e
+top_shape : (n : Name) (id : FileId) (own : Own) (file : Option File) (less more : Unfolded) → id.0 ≡ own.id → cond (same_name n (Entry id)) (Some (entry_above own file less more)) None ≡ at_top n (entry_above own file less more)
+top_shape (Entry i) id own None less more e = ap (λ z. cond (i.0 == z) (Some (entry_above own None less more)) None) e
+top_shape (Entry i) id own (Some f) less more e = ap (λ z. cond (i.0 == z) (Some (entry_above own (Some f) less more)) None) e
 top_shape (Part f l i) id own file less more e = refl
 top_shape (Block f p) id own file less more e = refl
 
-spelled_node : (key : List ℕ) (n : Name) (own : Own) (file : Option File) (less more : Unfolded) (node : Node) → node_of (entry own file less more) ≡ Some node → spelled key n (entry own file less more) ≡ spelling node
+spelled_node : (key : List ℕ) (n : Name) (own : Own) (file : Option File) (less more : Unfolded) (node : Node) → node_of (entry_above own file less more) ≡ Some node → spelled key n (entry_above own file less more) ≡ spelling node
 spelled_node key n own None less more node e = ap node_spelled e
 spelled_node key n own (Some f) less more node e = ap node_spelled e
 
 -- its record
 pub top_put : (key : List ℕ) (own : Own) (file : Option File) (less more : Unfolded) (node : Node) (id : FileId) (a b : Records) → id.0 ≡ own.id
-    → ((n : Name) → looked n b ≡ cond (same_name n (Entry id)) (Some (spelling node)) (looked n a)) → node_of (entry own file less more) ≡ Some node → Adds key (λ n. at_top n (entry own file less more)) a b
+    → ((n : Name) → looked n b ≡ cond (same_name n (Entry id)) (Some (spelling node)) (looked n a)) → node_of (entry_above own file less more) ≡ Some node → Adds key (λ n. at_top n (entry_above own file less more)) a b
 top_put key own file less more node id a b e h g =
-    adds_same key (λ n. cond (same_name n (Entry id)) (Some (entry own file less more)) None) (λ n. at_top n (entry own file less more)) a b (λ n. top_shape n id own file less more e)
-    (adds_one key (Entry id) (entry own file less more) (spelling node) a b h (λ n s. spelled_node key n own file less more node g))
+    adds_same key (λ n. cond (same_name n (Entry id)) (Some (entry_above own file less more)) None) (λ n. at_top n (entry_above own file less more)) a b (λ n. top_shape n id own file less more e)
+    (adds_one key (Entry id) (entry_above own file less more) (spelling node) a b h (λ n s. spelled_node key n own file less more node g))
 
 either_cond : (c : Bool) (x : Unfolded) (a : Option Unfolded) → either (cond c (Some x) None) a ≡ cond c (Some x) a
 either_cond true x a = refl
@@ -136,8 +136,8 @@ either_cond false x a = refl
 
 -- an entry and those below it, by name
 pub directory_over : (n : Name) (own : Own) (file : Option File) (less more : Unfolded)
-    → either (at_top n (entry own file less more)) (either (in_directory n less) (in_directory n more)) ≡ in_directory n (entry own file less more)
-directory_over (Entry i) own None less more = either_cond (i.0 == own.id) (entry own None less more) (either (entry_in i.0 less) (entry_in i.0 more))
-directory_over (Entry i) own (Some f) less more = either_cond (i.0 == own.id) (entry own (Some f) less more) (either (entry_in i.0 less) (entry_in i.0 more))
+    → either (at_top n (entry_above own file less more)) (either (in_directory n less) (in_directory n more)) ≡ in_directory n (entry_above own file less more)
+directory_over (Entry i) own None less more = either_cond (i.0 == own.id) (entry_above own None less more) (either (entry_in i.0 less) (entry_in i.0 more))
+directory_over (Entry i) own (Some f) less more = either_cond (i.0 == own.id) (entry_above own (Some f) less more) (either (entry_in i.0 less) (entry_in i.0 more))
 directory_over (Part f l i) own file less more = refl
 directory_over (Block f p) own file less more = refl

@@ -6,7 +6,7 @@ use Rattle.iris_name.specs.declared.request.Request.TheVariants.{Mkdir, Create, 
 use Rattle.iris_name.specs.Paths.{names_of}
 use Rattle.iris_table.specs.Rows.{File, Rows, End, Row, Table, Found, Here, Missing, Through, met, empty_table}
 use Rattle.iris_table.specs.Changes.{trash_name}
-use Rattle.iris_table.specs.Ages.{after}
+use Rattle.iris_table.specs.Ages.{after_requests}
 use Rattle.iris_table.specs.Challenges.{table_walk}
 use Rattle.iris_table.specs.Shown.{shown, directory}
 use Rattle.iris_node.specs.Unfolded.{Unfolded, Absent, Folder, Stored}
@@ -42,7 +42,7 @@ reclaims (suc n) = Reclaim ∷ reclaims n
 
 -- a gap is a hole, and the place that is written has the counter's number
 abbrev gap : Table
-gap = after empty_table (Create (codes "/f") ∷ Write (codes "/f") 5000 (255 ∷ []) ∷ [])
+gap = after_requests empty_table (Create (codes "/f") ∷ Write (codes "/f") 5000 (255 ∷ []) ∷ [])
 
 gap_versions : (version_of (met gap (named (codes "f"))) 0 ≡ 0) × (version_of (met gap (named (codes "f"))) 1 ≡ 1) × (gap.age ≡ 2) × (gap.next ≡ 3)
 unfolding names_of
@@ -52,12 +52,12 @@ gap_versions = (refl, refl, refl, refl)
 abbrev grown : List Request
 grown = Create (codes "/f") ∷ Write (codes "/f") 0 (1 ∷ 2 ∷ 3 ∷ []) ∷ Write (codes "/f") 9000 (4 ∷ []) ∷ Resize (codes "/f") 9500 ∷ []
 
-grown_versions : (version_of (met (after empty_table grown) (named (codes "f"))) 0 ≡ 1) × (version_of (met (after empty_table grown) (named (codes "f"))) 1 ≡ 0) × (version_of (met (after empty_table grown) (named (codes "f"))) 2 ≡ 2)
+grown_versions : (version_of (met (after_requests empty_table grown) (named (codes "f"))) 0 ≡ 1) × (version_of (met (after_requests empty_table grown) (named (codes "f"))) 1 ≡ 0) × (version_of (met (after_requests empty_table grown) (named (codes "f"))) 2 ≡ 2)
 unfolding names_of
 grown_versions = (refl, refl, refl)
 
 abbrev cut_inside : Table
-cut_inside = after (after empty_table grown) (Resize (codes "/f") 2 ∷ [])
+cut_inside = after_requests (after_requests empty_table grown) (Resize (codes "/f") 2 ∷ [])
 
 cut_versions : (version_of (met cut_inside (named (codes "f"))) 0 ≡ 4) × (version_of (met cut_inside (named (codes "f"))) 2 ≡ 0)
 unfolding names_of
@@ -65,7 +65,7 @@ cut_versions = (refl, refl)
 
 -- at a multiple of 4,096 the last kept place keeps its version
 abbrev cut_between : Table
-cut_between = after (after empty_table grown) (Resize (codes "/f") 4096 ∷ [])
+cut_between = after_requests (after_requests empty_table grown) (Resize (codes "/f") 4096 ∷ [])
 
 kept_versions : (version_of (met cut_between (named (codes "f"))) 0 ≡ 1) × (version_of (met cut_between (named (codes "f"))) 2 ≡ 0)
 unfolding names_of
@@ -75,10 +75,10 @@ kept_versions = (refl, refl)
 abbrev deep : List Request
 deep = Mkdir (codes "/a") ∷ Mkdir (codes "/a/b") ∷ Create (codes "/a/b/c") ∷ Remove (codes "/a") ∷ Mkdir (codes "/a") ∷ []
 
-deep_left : (is_left (after (after empty_table deep) (reclaims 1)).trash ≡ true) × (is_left (after (after empty_table deep) (reclaims 2)).trash ≡ true)
-    × (is_left (after (after empty_table deep) (reclaims 3)).trash ≡ true) × (is_left (after (after empty_table deep) (reclaims 4)).trash ≡ true)
-    × (is_left (after (after empty_table deep) (reclaims 5)).trash ≡ false) × (is_left (after (after empty_table deep) (reclaims 6)).trash ≡ false)
-    × (id_of (met (after (after empty_table deep) (reclaims 6)) (named (codes "a"))) ≡ 5) × ((after (after empty_table deep) (reclaims 6)).age ≡ 5)
+deep_left : (is_left (after_requests (after_requests empty_table deep) (reclaims 1)).trash ≡ true) × (is_left (after_requests (after_requests empty_table deep) (reclaims 2)).trash ≡ true)
+    × (is_left (after_requests (after_requests empty_table deep) (reclaims 3)).trash ≡ true) × (is_left (after_requests (after_requests empty_table deep) (reclaims 4)).trash ≡ true)
+    × (is_left (after_requests (after_requests empty_table deep) (reclaims 5)).trash ≡ false) × (is_left (after_requests (after_requests empty_table deep) (reclaims 6)).trash ≡ false)
+    × (id_of (met (after_requests (after_requests empty_table deep) (reclaims 6)) (named (codes "a"))) ≡ 5) × ((after_requests (after_requests empty_table deep) (reclaims 6)).age ≡ 5)
 unfolding names_of
 deep_left = (refl, refl, refl, refl, refl, refl, refl, refl)
 
@@ -89,10 +89,10 @@ dots (suc n) = Write (codes "/f") (n * 4096) (1 ∷ []) ∷ dots n
 
 -- 17 written blocks, resized to 0: two steps leave something, the third nothing; 16 blocks take one less
 abbrev dotted : ℕ → Table
-dotted n = after empty_table (Create (codes "/f") ∷ dots n ++ Resize (codes "/f") 0 ∷ [])
+dotted n = after_requests empty_table (Create (codes "/f") ∷ dots n ++ Resize (codes "/f") 0 ∷ [])
 
-dotted_left : (is_left (after (dotted 17) (reclaims 1)).trash ≡ true) × (is_left (after (dotted 17) (reclaims 2)).trash ≡ true) × (is_left (after (dotted 17) (reclaims 3)).trash ≡ false)
-    × (is_left (after (dotted 16) (reclaims 1)).trash ≡ true) × (is_left (after (dotted 16) (reclaims 2)).trash ≡ false)
+dotted_left : (is_left (after_requests (dotted 17) (reclaims 1)).trash ≡ true) × (is_left (after_requests (dotted 17) (reclaims 2)).trash ≡ true) × (is_left (after_requests (dotted 17) (reclaims 3)).trash ≡ false)
+    × (is_left (after_requests (dotted 16) (reclaims 1)).trash ≡ true) × (is_left (after_requests (dotted 16) (reclaims 2)).trash ≡ false)
     × (id_of (met (dotted 17) (named (codes "f"))) ≡ 3) × ((dotted 17).age ≡ 19)
 unfolding names_of
 dotted_left = (refl, refl, refl, refl, refl, refl, refl)
@@ -117,13 +117,13 @@ fresh_shown order = (refl, refl, refl, refl)
 
 -- a hole is no block; a file in the trash keeps its blocks
 gap_shown : (order : List ℕ) → (shown order gap (Block (id 2) 0) ≡ None) × (stored (shown order gap (Block (id 2) 1)) ≡ 1)
-    × (stored (shown order (after gap (Remove (codes "/f") ∷ [])) (Block (id 2) 1)) ≡ 1)
+    × (stored (shown order (after_requests gap (Remove (codes "/f") ∷ [])) (Block (id 2) 1)) ≡ 1)
 unfolding shown names_of
 gap_shown order = (refl, refl, refl)
 
 -- a file in a directory is walked over before one in the trash, and holes count
 abbrev walked : Table
-walked = after empty_table (Mkdir (codes "/d") ∷ Create (codes "/d/f") ∷ Write (codes "/d/f") 5000 (255 ∷ []) ∷ Remove (codes "/d/f") ∷ Create (codes "/d/h") ∷ Write (codes "/d/h") 0 (1 ∷ []) ∷ [])
+walked = after_requests empty_table (Mkdir (codes "/d") ∷ Create (codes "/d/f") ∷ Write (codes "/d/f") 5000 (255 ∷ []) ∷ Remove (codes "/d/f") ∷ Create (codes "/d/h") ∷ Write (codes "/d/h") 0 (1 ∷ []) ∷ [])
 
 abbrev block : ℕ → ℕ → BlockAt
 block file place = record { file = file; place = place }

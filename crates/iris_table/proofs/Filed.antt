@@ -6,7 +6,7 @@ use Rattle.iris_plain.specs.Routes.{parent, last, is_path}
 use Rattle.iris_plain.specs.declared.files.Kind.{Kind}
 use Rattle.iris_plain.specs.declared.files.Kind.TheVariants.{Bytes}
 use Rattle.iris_plain.specs.Files.{on_bytes, on_kind}
-use Rattle.iris_table.specs.View.{look, into, bound, kind, content}
+use Rattle.iris_table.specs.View.{kind_below, into, bound, kind_of, content}
 use Rattle.iris_table.proofs.Held.{holding, mapped}
 use Rattle.iris_table.specs.Sound.{IsGood, AreGood}
 use Rattle.iris_table.proofs.Finds.{same_tells, either, apart, find_at}
@@ -44,7 +44,7 @@ still b None g e = by b where
 still b (Some k) g e = absurd (cc)
 
 module _ (f : File → File) (g : List ℕ → List ℕ) (law : (file : File) → IsGood (Some file) → content (f file) ≡ g (content file)) where
-  itself : (file : Option File) → IsGood file → kind (on_file f file) ≡ on_bytes g (kind file)
+  itself : (file : Option File) → IsGood file → kind_of (on_file f file) ≡ on_bytes g (kind_of file)
   itself None h = refl
   itself (Some file) h = ap Bytes (law file h)
 
@@ -52,20 +52,20 @@ module _ (f : File → File) (g : List ℕ → List ℕ) (law : (file : File) �
   into_same None o = refl
   into_same (Some file) o = refl
 
-  one : (below : Taken) (q : List (List ℕ)) → IsGood below.file → look q (refiled f below) ≡ cond (is_path [] q) (on_kind g (look q below)) (look q below)
+  one : (below : Taken) (q : List (List ℕ)) → IsGood below.file → kind_below q (refiled f below) ≡ cond (is_path [] q) (on_kind g (kind_below q below)) (kind_below q below)
   one below [] h = ap Some (itself below.file h)
   one below (k ∷ q) h = into_same below.file _
 
   pub filed_at : (n : List ℕ) (ns : List (List ℕ)) (row : Taken) (q : List (List ℕ)) → AreGood row.inside
-      → look q (holding (at (parent (n ∷ ns)) (file_at (last (n ∷ ns)) f) row.inside) row) ≡ cond (is_path (n ∷ ns) q) (on_kind g (look q row)) (look q row)
+      → kind_below q (holding (at (parent (n ∷ ns)) (file_at (last (n ∷ ns)) f) row.inside) row) ≡ cond (is_path (n ∷ ns) q) (on_kind g (kind_below q row)) (kind_below q row)
   filed_at n [] row [] h = refl
   filed_at n [] row (m ∷ q) h = by row.file (same_tells m n) where
-    deep : (o : Option Taken) → find n row.inside ≡ o → bound (mapped (refiled f) o) (λ below. look q below) ≡ cond (is_path [] q) (on_kind g (bound o (λ below. look q below))) (bound o (λ below. look q below))
+    deep : (o : Option Taken) → find n row.inside ≡ o → bound (mapped (refiled f) o) (λ below. kind_below q below) ≡ cond (is_path [] q) (on_kind g (bound o (λ below. kind_below q below))) (bound o (λ below. kind_below q below))
     deep None e = still (is_path [] q) None g refl
     deep (Some below) e = one below q (good_found n row.inside below e h).0
 
     by : (file : Option File) → ((same m n ≡ true) × (m ≡ n)) ⊎ ((same m n ≡ false) × (m ≢ n))
-        → into file (bound (find m (file_at n f row.inside)) (λ below. look q below)) ≡ cond (same m n && is_path [] q) (on_kind g (into file (bound (find m row.inside) (λ below. look q below)))) (into file (bound (find m row.inside) (λ below. look q below)))
+        → into file (bound (find m (file_at n f row.inside)) (λ below. kind_below q below)) ≡ cond (same m n && is_path [] q) (on_kind g (into file (bound (find m row.inside) (λ below. kind_below q below)))) (into file (bound (find m row.inside) (λ below. kind_below q below)))
     by (Some file) t = still (same m n && is_path [] q) None g refl
     by None (inr t) = rw (find_file_at m n f row.inside, t.0) refl
     by None (inl t) = rw (find_file_at m n f row.inside, t.0, t.1) (deep (find n row.inside) refl)
@@ -75,14 +75,14 @@ module _ (f : File → File) (g : List ℕ → List ℕ) (law : (file : File) �
     P o = Unit {0}
 
     deep : (o : Option Taken) → find n row.inside ≡ o
-        → ((below : Taken) (q : List (List ℕ)) → AreGood below.inside → look q (holding (at (parent (k ∷ ns)) (file_at (last (k ∷ ns)) f) below.inside) below) ≡ cond (is_path (k ∷ ns) q) (on_kind g (look q below)) (look q below))
-        → bound (mapped (λ below. holding (at (parent (k ∷ ns)) (file_at (last (k ∷ ns)) f) below.inside) below) o) (λ below. look q below) ≡ cond (is_path (k ∷ ns) q) (on_kind g (bound o (λ below. look q below))) (bound o (λ below. look q below))
+        → ((below : Taken) (q : List (List ℕ)) → AreGood below.inside → kind_below q (holding (at (parent (k ∷ ns)) (file_at (last (k ∷ ns)) f) below.inside) below) ≡ cond (is_path (k ∷ ns) q) (on_kind g (kind_below q below)) (kind_below q below))
+        → bound (mapped (λ below. holding (at (parent (k ∷ ns)) (file_at (last (k ∷ ns)) f) below.inside) below) o) (λ below. kind_below q below) ≡ cond (is_path (k ∷ ns) q) (on_kind g (bound o (λ below. kind_below q below))) (bound o (λ below. kind_below q below))
     deep None e ih = still (is_path (k ∷ ns) q) None g refl
     deep (Some below) e ih = ih below q (good_found n row.inside below e h).1
 
     by : (file : Option File) → ((same m n ≡ true) × (m ≡ n)) ⊎ ((same m n ≡ false) × (m ≢ n))
-        → bound (mapped (λ below. holding (at (parent (k ∷ ns)) (file_at (last (k ∷ ns)) f) below.inside) below) (find n row.inside)) (λ below. look q below) ≡ cond (is_path (k ∷ ns) q) (on_kind g (bound (find n row.inside) (λ below. look q below))) (bound (find n row.inside) (λ below. look q below))
-        → into file (bound (find m (at (n ∷ parent (k ∷ ns)) (file_at (last (k ∷ ns)) f) row.inside)) (λ below. look q below)) ≡ cond (same m n && is_path (k ∷ ns) q) (on_kind g (into file (bound (find m row.inside) (λ below. look q below)))) (into file (bound (find m row.inside) (λ below. look q below)))
+        → bound (mapped (λ below. holding (at (parent (k ∷ ns)) (file_at (last (k ∷ ns)) f) below.inside) below) (find n row.inside)) (λ below. kind_below q below) ≡ cond (is_path (k ∷ ns) q) (on_kind g (bound (find n row.inside) (λ below. kind_below q below))) (bound (find n row.inside) (λ below. kind_below q below))
+        → into file (bound (find m (at (n ∷ parent (k ∷ ns)) (file_at (last (k ∷ ns)) f) row.inside)) (λ below. kind_below q below)) ≡ cond (same m n && is_path (k ∷ ns) q) (on_kind g (into file (bound (find m row.inside) (λ below. kind_below q below)))) (into file (bound (find m row.inside) (λ below. kind_below q below)))
     by (Some file) t p = still (same m n && is_path (k ∷ ns) q) None g refl
     by None (inr t) p = rw (find_at m n (parent (k ∷ ns)) (file_at (last (k ∷ ns)) f) row.inside, t.0) refl
     by None (inl t) p = rw (find_at m n (parent (k ∷ ns)) (file_at (last (k ∷ ns)) f) row.inside, t.0, t.1) p

@@ -1,8 +1,8 @@
 use Rattle.std.proofs.Common.{◌≡◌, ◌≢◌, ◌⊎◌, inl, inr, ℕ, List, ◌∷◌, Bool, true, false, cond, Option, Some, None, refl, sym, ◌∙◌, ap, subst}
 use Rattle.std.specs.Cmp.Lexicographic.{bytes_decides}
-use Rattle.iris_table.specs.Rows.{Rows, End, Row, Taken, find, put, without, at}
+use Rattle.iris_table.specs.Rows.{Rows, End, Row, Taken, find, with_row, without_row, at}
 use Rattle.std.specs.Str.{bytes_eq as same}
-use Rattle.iris_plain.specs.Routes.{before}
+use Rattle.iris_plain.specs.Routes.{is_name_before}
 use Rattle.iris_table.specs.Sound.{IsDistinct}
 use Rattle.iris_table.proofs.Held.{holding, mapped}
 
@@ -36,22 +36,22 @@ pub past : (b : Bool) (x : Taken) (o : Option Taken) → cond b (Some x) o ≡ N
 past true x o e = absurd (cc)
 past false x o e = (refl, e)
 
-pub find_put : (m n : List ℕ) (new : Taken) (rows : Rows) → find n rows ≡ None → find m (put n new rows) ≡ cond (same m n) (Some new) (find m rows)
+pub find_put : (m n : List ℕ) (new : Taken) (rows : Rows) → find n rows ≡ None → find m (with_row n new rows) ≡ cond (same m n) (Some new) (find m rows)
 find_put m n new End h = refl
 find_put m n new (Row id name file inside next) h =
-    let p = past (same n name) _ _ h in by (before n name) p.0 (find_put m n new next p.1) where
-      by : (b : Bool) → same n name ≡ false → find m (put n new next) ≡ cond (same m n) (Some new) (find m next)
-          → find m (cond b (Row new.id n new.file new.inside (Row id name file inside next)) (Row id name file inside (put n new next)))
+    let p = past (same n name) _ _ h in by (is_name_before n name) p.0 (find_put m n new next p.1) where
+      by : (b : Bool) → same n name ≡ false → find m (with_row n new next) ≡ cond (same m n) (Some new) (find m next)
+          → find m (cond b (Row new.id n new.file new.inside (Row id name file inside next)) (Row id name file inside (with_row n new next)))
           ≡ cond (same m n) (Some new) (cond (same m name) (Some (record { id = id; file = file; inside = inside })) (find m next))
       by true f e = refl
       by false f e = swapped (same m name) (same m n) _ _ _ _ (apart m n name f) e
 
-pub find_without : (m n : List ℕ) (rows : Rows) → IsDistinct rows → find m (without n rows) ≡ cond (same m n) None (find m rows)
+pub find_without : (m n : List ℕ) (rows : Rows) → IsDistinct rows → find m (without_row n rows) ≡ cond (same m n) None (find m rows)
 find_without m n End d = either (same m n) None
 find_without m n (Row id name file inside next) d = elim (same_tells n name) [
-  | inl e ↦ subst (λ b. find m (cond b next (Row id name file inside (without n next))) ≡ cond (same m n) None (cond (same m name) (Some x) (find m next))) (sym e.0)
+  | inl e ↦ subst (λ b. find m (cond b next (Row id name file inside (without_row n next))) ≡ cond (same m n) None (cond (same m name) (Some x) (find m next))) (sym e.0)
       (subst (λ k. find m next ≡ cond (same m k) None (cond (same m name) (Some x) (find m next))) (sym e.1) (here (same_tells m name)))
-  | inr e ↦ subst (λ b. find m (cond b next (Row id name file inside (without n next))) ≡ cond (same m n) None (cond (same m name) (Some x) (find m next))) (sym e.0)
+  | inr e ↦ subst (λ b. find m (cond b next (Row id name file inside (without_row n next))) ≡ cond (same m n) None (cond (same m name) (Some x) (find m next))) (sym e.0)
       (swapped (same m name) (same m n) _ _ _ _ (apart m n name e.0) (find_without m n next d.2))
 ] where
   x : Taken

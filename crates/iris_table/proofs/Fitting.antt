@@ -9,8 +9,8 @@ use Rattle.iris_table.specs.declared.file.Place.{Place}
 use Rattle.iris_table.specs.Rows.{File, zeros}
 use Rattle.iris_table.specs.Sound.{ArePages}
 use Rattle.iris_table.specs.View.{joined, content}
-use Rattle.iris_table.specs.Changes.{merged, is_touched, written, cut, filled, freed}
-use Rattle.iris_table.specs.Places.{IsKept, IsPlace, version_of, block_of, version_at, block_at, file_of, hole, paged, put_pages, cut_page, split_places}
+use Rattle.iris_table.specs.Changes.{merged, is_touched, file_written, cut, count_written, freed}
+use Rattle.iris_table.specs.Places.{IsKept, IsPlace, place_version, block_of, version_at, block_at, file_of, hole, paged, put_pages, cut_page, split_places}
 use Rattle.iris_table.proofs.Resize.{length-zeros}
 use Rattle.iris_table.proofs.Content.{written_pages, less_or, length-joined, get_or-joined, length-content, get_or-content}
 use Rattle.iris_table.proofs.Paging.{slice_get-set_same, slice_get-set_other, slice_get-take, version-holes, block-holes, places-holes, version_past, block_past, pages_of, hole_block}
@@ -104,13 +104,13 @@ module _ (old size counter : ℕ) (places : List Place) (down : size < old) (kep
       ≡ cond a 0 (cond (nat_lt size old && (p == size / 4096) && not (version_at places p == 0)) (counter + 1) (version_at places p))
   down_version p true b c ea eb ec = let k : blocks_of size ≤ p = grind (arith, nat_tests) in version_past _ p (omega (arith, long))
   down_version p false false c ea eb ec = let k : p < blocks_of size = grind (arith, nat_tests) in let ne : p ≢ size / 4096 = grind (arith, nat_tests) in
-      ap version_of (slice_get-take (blocks_of size) _ p k ∙ down_other p ne) ∙ rw (is_down, eb) refl
+      ap place_version (slice_get-take (blocks_of size) _ p k ∙ down_other p ne) ∙ rw (is_down, eb) refl
   down_version p false true true ea eb ec = let k : p < blocks_of size = grind (arith, nat_tests) in let e : p ≡ size / 4096 = grind (arith, nat_tests) in
       let z : (version_at places p == 0) ≡ true = ap (λ m. version_at places m == 0) e ∙ ec in
-      ap version_of (slice_get-take (blocks_of size) _ p k ∙ ap (slice_get (split_places size (counter + 1) places)) e ∙ down_same true ec) ∙ ap (version_at places) (sym e) ∙ rw (is_down, eb, z) refl
+      ap place_version (slice_get-take (blocks_of size) _ p k ∙ ap (slice_get (split_places size (counter + 1) places)) e ∙ down_same true ec) ∙ ap (version_at places) (sym e) ∙ rw (is_down, eb, z) refl
   down_version p false true false ea eb ec = let k : p < blocks_of size = grind (arith, nat_tests) in let e : p ≡ size / 4096 = grind (arith, nat_tests) in
       let z : (version_at places p == 0) ≡ false = ap (λ m. version_at places m == 0) e ∙ ec in
-      ap version_of (slice_get-take (blocks_of size) _ p k ∙ ap (slice_get (split_places size (counter + 1) places)) e ∙ down_same false ec) ∙ rw (is_down, eb, z) refl
+      ap place_version (slice_get-take (blocks_of size) _ p k ∙ ap (slice_get (split_places size (counter + 1) places)) e ∙ down_same false ec) ∙ rw (is_down, eb, z) refl
 
   down_block : (p : ℕ) (a b c : Bool) → nat_le (blocks_of size) p ≡ a → (p == size / 4096) ≡ b → (version_at places (size / 4096) == 0) ≡ c
       → block_at (take (blocks_of size) (split_places size (counter + 1) places)) p
@@ -183,14 +183,14 @@ module _ (size counter offset : ℕ) (bytes : List ℕ) (old mid new : List Plac
   at_other p t = put_is p ∙ ap (λ b. cond b (paged (counter + 1) (slice_get pages (p - offset / 4096))) (slice_get mid p)) (test_is p ∙ t) ∙ ap (λ ps. slice_get ps p) mid_is
 
   wrote_version : (p : ℕ) (b : Bool) → is_touched offset (length bytes) p ≡ b → version_at new p ≡ cond b (counter + 1) (version_at old p)
-  wrote_version p true t = ap version_of (at_touched p t)
-  wrote_version p false t = ap version_of (at_other p t) ∙ version-holes old (blocks_of (offset + length bytes) - length old) p
+  wrote_version p true t = ap place_version (at_touched p t)
+  wrote_version p false t = ap place_version (at_other p t) ∙ version-holes old (blocks_of (offset + length bytes) - length old) p
 
   wrote_block : (p : ℕ) (b : Bool) → is_touched offset (length bytes) p ≡ b → block_at new p ≡ cond b (merged offset bytes p (block_at old p)) (block_at old p)
   wrote_block p true t = ap block_of (at_touched p t)
   wrote_block p false t = ap block_of (at_other p t) ∙ block-holes old (blocks_of (offset + length bytes) - length old) p
 
-  pub fit_write : file_of (record { size = cond (nat_lt size (offset + length bytes)) (offset + length bytes) size; counter = counter + 1; places = new }) ≡ written offset bytes (file_of (record { size = size; counter = counter; places = old }))
+  pub fit_write : file_of (record { size = cond (nat_lt size (offset + length bytes)) (offset + length bytes) size; counter = counter + 1; places = new }) ≡ file_written offset bytes (file_of (record { size = size; counter = counter; places = old }))
   fit_write = same_file _ _ refl refl (λ p. wrote_version p (is_touched offset (length bytes) p) refl) (λ p. wrote_block p (is_touched offset (length bytes) p) refl)
 
   wrote_place : (p : ℕ) (b : Bool) → is_touched offset (length bytes) p ≡ b → IsPlace (slice_get new p)
@@ -221,8 +221,8 @@ cut_copied m piece z old e f h = let k : 0 + length (take m old) ≡ m = omega (
     (λ i. take 0 z ++ (f i ++ drop (0 + length (f i)) (e i))) ∙ ap (λ n. take m old ++ drop n (replicate 4096 0)) k ∙ ap (λ r. take m old ++ r) (drop-replicate m 4096 0)
 
 -- after freeing
-pub fit_free : (size counter : ℕ) (places now : List Place) → ((p : ℕ) → version_at now p ≡ cond (nat_lt (filled (version_at places) p) 16) 0 (version_at places p))
-    → ((p : ℕ) → block_at now p ≡ cond (nat_lt (filled (version_at places) p) 16) zeros (block_at places p))
+pub fit_free : (size counter : ℕ) (places now : List Place) → ((p : ℕ) → version_at now p ≡ cond (nat_lt (count_written (version_at places) p) 16) 0 (version_at places p))
+    → ((p : ℕ) → block_at now p ≡ cond (nat_lt (count_written (version_at places) p) 16) zeros (block_at places p))
     → file_of (record { size = size; counter = counter; places = now }) ≡ freed (file_of (record { size = size; counter = counter; places = places }))
 fit_free size counter places now v b = same_file _ _ refl refl v b
 
@@ -250,13 +250,13 @@ fit_read f offset count least n pages inside e blocks = ext_get_or 0 _ _ (left �
 -- the place that is split, by what the code reads of it
 pub fit_split : (size version : ℕ) (places : List Place) (x : Place) (page : List ℕ) → size / 4096 < length places → ((get_or places (size / 4096) x).version ≡ 0 → ⊥)
     → page ≡ cut_page (size % 4096) (block_at places (size / 4096)) → set places (size / 4096) (record { version = version; page = Some page }) ≡ split_places size version places
-fit_split size version places x page within some e = let v : version_at places (size / 4096) ≡ (get_or places (size / 4096) x).version = ap version_of (slice_get-get_or places (size / 4096) x within) in
+fit_split size version places x page within some e = let v : version_at places (size / 4096) ≡ (get_or places (size / 4096) x).version = ap place_version (slice_get-get_or places (size / 4096) x within) in
     let ne : version_at places (size / 4096) ≢ 0 = (λ z. some (sym v ∙ z)) in
     let f : (version_at places (size / 4096) == 0) ≡ false = grind (arith, nat_tests) in
     ap (λ p. set places (size / 4096) (record { version = version; page = Some p })) e
     ∙ sym (ap (λ b. cond b places (set places (size / 4096) (record { version = version; page = Some (cut_page (size % 4096) (block_at places (size / 4096))) }))) f)
 
 pub fit_hole : (size version : ℕ) (places : List Place) (x : Place) → size / 4096 < length places → (get_or places (size / 4096) x).version ≡ 0 → places ≡ split_places size version places
-fit_hole size version places x within z = let v : version_at places (size / 4096) ≡ 0 = ap version_of (slice_get-get_or places (size / 4096) x within) ∙ z in
+fit_hole size version places x within z = let v : version_at places (size / 4096) ≡ 0 = ap place_version (slice_get-get_or places (size / 4096) x within) ∙ z in
     let f : (version_at places (size / 4096) == 0) ≡ true = grind (arith, nat_tests) in
     sym (ap (λ b. cond b places (set places (size / 4096) (record { version = version; page = Some (cut_page (size % 4096) (block_at places (size / 4096))) }))) f)

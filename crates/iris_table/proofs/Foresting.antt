@@ -1,7 +1,7 @@
 -- Items stay a forest in preorder.
 use Rattle.std.proofs.Common.{◌≡◌, inl, inr, ℕ, zero, suc, ◌+◌, ◌-◌, ◌^◌, ◌<◌, ◌≤◌, List, [], ◌∷◌, ◌++◌, length, take, drop, map, Bool, true, false, cond, Option, Some, None, refl, sym, ap, subst, arith}
 use Rattle.std.proofs.lemmas.List.{append-nil}
-use Rattle.iris_plain.specs.Routes.{before}
+use Rattle.iris_plain.specs.Routes.{is_name_before}
 use Rattle.iris_table.specs.declared.item.Item.{Item}
 use Rattle.iris_table.specs.Places.{Kept}
 use Rattle.iris_table.specs.Items.{most_depth, IsForestTo}
@@ -73,8 +73,8 @@ module _ (d : ℕ) (r : Item) (rs : List Item) (here : r.depth ≡ d) (deep : Ar
     | inr s ↦ elim s [
       | inl l ↦ let k : room d r.name (x ∷ xs) ≡ suc (room d r.name xs) = rw (lt_false x.depth d (omega arith), lt_true d x.depth l) refl in let Q : ℕ → Type 0 = λ k. IsForestTo m (take k (x ∷ xs) ++ ((r ∷ rs) ++ drop k (x ∷ xs))) in
           subst Q (sym k) (f.0, forest_put (most_depth x x.file) xs (let y = most_least x x.file in omega arith) f.1)
-      | inr t ↦ let k : room d r.name (x ∷ xs) ≡ cond (before r.name x.name) 0 (suc (room d r.name xs)) = rw (lt_false x.depth d (omega arith), lt_false d x.depth (omega arith)) refl in let Q : ℕ → Type 0 = λ k. IsForestTo m (take k (x ∷ xs) ++ ((r ∷ rs) ++ drop k (x ∷ xs))) in
-          subst Q (sym k) (by (before r.name x.name) (forest_run d m m r rs (x ∷ xs) (omega arith) deep (forest_wider d m (r ∷ rs) h forest) (omega arith) f)
+      | inr t ↦ let k : room d r.name (x ∷ xs) ≡ cond (is_name_before r.name x.name) 0 (suc (room d r.name xs)) = rw (lt_false x.depth d (omega arith), lt_false d x.depth (omega arith)) refl in let Q : ℕ → Type 0 = λ k. IsForestTo m (take k (x ∷ xs) ++ ((r ∷ rs) ++ drop k (x ∷ xs))) in
+          subst Q (sym k) (by (is_name_before r.name x.name) (forest_run d m m r rs (x ∷ xs) (omega arith) deep (forest_wider d m (r ∷ rs) h forest) (omega arith) f)
           (f.0, forest_put (most_depth x x.file) xs (let y = most_least x x.file in omega arith) f.1))
     ]
   ] where

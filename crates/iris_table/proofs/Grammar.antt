@@ -7,7 +7,7 @@ use Rattle.sha2.proofs.Facts256.{length-sha256}
 use Rattle.iris_name.specs.Hmac.{priority}
 use Rattle.iris_name.specs.declared.name.Name.{Name}
 use Rattle.iris_node.specs.Nodes.{IsNode, FitsLink, FitsSide, name_of}
-use Rattle.iris_node.specs.Rules.{IsFileName, IsLinked, IsFold, Differ, most_length}
+use Rattle.iris_node.specs.Rules.{IsFileName, IsLinkToNamed, IsFold, AreUnequalSides, most_length}
 use Rattle.iris_node.specs.Trees.{node_name}
 use Rattle.iris_node.specs.Unfolded.{Unfolded, Absent, Folder, Leaf, Even, Split, Stored, blocks, link_to, side_to, node_of}
 use Rattle.iris_node.specs.declared.node.Node.{Node}
@@ -19,9 +19,9 @@ use Rattle.iris_shape.proofs.FoldProofs.{one_fold}
 use Rattle.iris_shape.proofs.Treaps.{every_treap}
 use Rattle.iris_table.specs.Pieces.{IsHalved}
 use Rattle.iris_table.specs.Rows.{File, Rows, End, Row}
-use Rattle.iris_shape.specs.Sides.{side}
-use Rattle.iris_table.specs.Shown.{Own, own_id, versions, entry, entries, arranged, owns, directory}
-use Rattle.iris_table.specs.Sound.{times, rows_in, AllFiles, IsShort, IsCounted, IsOrdered}
+use Rattle.iris_shape.specs.Sides.{unfolded_side}
+use Rattle.iris_table.specs.Shown.{Own, own_id, versions, entry_above, unfolded_entries, treap_of_entries, owns, directory}
+use Rattle.iris_table.specs.Sound.{times_given, rows_in, AllFiles, FitsRecord, IsCounted, IsOrdered}
 use Rattle.iris_table.specs.Texts.{AreTexts, NodesFit}
 use Rattle.iris_table.proofs.Blocking.{folded_halved}
 use Rattle.iris_table.proofs.Branching.{IsSeen, seen, trees, trees_own}
@@ -49,7 +49,7 @@ record IsPlaced (file level index : ℕ) : Type 0 where
 
 abbrev SideFits : Unfolded → Type 0
 SideFits (Even v) = v < 2 ^ 64
-SideFits (Split f l j low high) = IsPlaced f l j × Differ (side_to low (node_of low)) (side_to high (node_of high))
+SideFits (Split f l j low high) = IsPlaced f l j × AreUnequalSides (side_to low (node_of low)) (side_to high (node_of high))
     × (l ≡ 1 → IsFold (side_to low (node_of low)) × IsFold (side_to high (node_of high))) × SideFits low × SideFits high
 SideFits Absent = ⊥
 SideFits (Folder id name less more inside) = ⊥
@@ -65,7 +65,7 @@ small_of v l i (One w) b h = subst (λ z. z < 2 ^ 64) (h (i * 2 ^ l) (at_own l i
 small_of v zero i (Two x y) b h = absurd h
 small_of v (suc l) i (Two x y) b h = (small_of v l (2 * i) x b h.1, small_of v l (2 * i + 1) y b h.2)
 
-side_fits : (file level index : ℕ) (x : Fold) → 2 ≤ file → file < 2 ^ 64 → level ≤ 16 → index < 2 ^ (16 - level) → IsHalved level x → AreSmall x → SideFits (side file level index x)
+side_fits : (file level index : ℕ) (x : Fold) → 2 ≤ file → file < 2 ^ 64 → level ≤ 16 → index < 2 ^ (16 - level) → IsHalved level x → AreSmall x → SideFits (unfolded_side file level index x)
 side_fits file level index (One v) a b c d h s = s
 side_fits file level index (Two x y) a b c d h s =
     let o = h.0 in let k = half_index level index o c d in (
@@ -115,7 +115,7 @@ EntryFits (Even v) = ⊥
 EntryFits (Split f l j low high) = ⊥
 EntryFits (Stored v bytes) = ⊥
 
-fits_link : (u : Unfolded) → EntryFits u → blocks u < 2 ^ 64 → IsLinked (link_to u (node_of u)) × FitsLink (link_to u (node_of u))
+fits_link : (u : Unfolded) → EntryFits u → blocks u < 2 ^ 64 → IsLinkToNamed (link_to u (node_of u)) × FitsLink (link_to u (node_of u))
 unfolding node_of
 fits_link Absent e b = (tt, tt)
 fits_link (Folder id name less more inside) e b = (e.0.least, (e.0.most, length-sha256 _, b))
@@ -178,25 +178,25 @@ versions_fit : (id : ℕ) (f : File) (name : List ℕ) → IsNamed id name → (
 versions_fit id f name a b =
     side_fits id 16 0 (folded f.version 16 0) a.least a.most (omega arith) (omega arith) (folded_halved f.version 16) (small_of f.version 16 0 (folded f.version 16 0) b (one_fold f.version 16 0).0)
 
-entry_fits : (o : Own) (file : Option File) (less more : Unfolded) → OwnFits o file → EntryFits less → EntryFits more → EntryFits (entry o file less more)
+entry_fits : (o : Own) (file : Option File) (less more : Unfolded) → OwnFits o file → EntryFits less → EntryFits more → EntryFits (entry_above o file less more)
 entry_fits o None less more s a b = (s.0, a, b, s.1)
 entry_fits o (Some f) less more s a b = (s.0, a, b, s.1, s.2, versions_fit o.id f o.name s.0 s.3)
 
-entries_fit : (t : Treap Own) → Every IsFitting t → EntryFits (entries t)
+entries_fit : (t : Treap Own) → Every IsFitting t → EntryFits (unfolded_entries t)
 entries_fit Empty e = tt
-entries_fit (Over o l m) e = entry_fits o o.file (entries l) (entries m) e.0 (entries_fit l e.1) (entries_fit m e.2)
+entries_fit (Over o l m) e = entry_fits o o.file (unfolded_entries l) (unfolded_entries m) e.0 (entries_fit l e.1) (entries_fit m e.2)
 
-arranged_fits : (order : List ℕ) (os : List Own) → Each IsFitting os → EntryFits (arranged order os)
+arranged_fits : (order : List ℕ) (os : List Own) → Each IsFitting os → EntryFits (treap_of_entries order os)
 arranged_fits order os e = entries_fit (treap (beside (priority order) own_id) os) (every_treap IsFitting (beside (priority order) own_id) os e)
 
 record AreRows (age : ℕ) (rows : Rows) : Type 0 where
-  pub given : (i : ℕ) → 1 ≤ times i rows → (2 ≤ i) × (i < 2 ^ 64)
+  pub given : (i : ℕ) → 1 ≤ times_given i rows → (2 ≤ i) × (i < 2 ^ 64)
   pub ordered : IsOrdered rows
   pub texts : AreTexts rows
-  pub short : AllFiles IsShort rows
+  pub short : AllFiles FitsRecord rows
   pub counted : AllFiles (IsCounted age) rows
 
-own_given : (id : ℕ) (name : List ℕ) (file : Option File) (inside next : Rows) → 1 ≤ times id (Row id name file inside next)
+own_given : (id : ℕ) (name : List ℕ) (file : Option File) (inside next : Rows) → 1 ≤ times_given id (Row id name file inside next)
 own_given id name file inside next = grind (arith, nat_tests)
 
 module _ (order : List ℕ) (age : ℕ) (most : age < 2 ^ 64) where
@@ -231,18 +231,18 @@ own_blocks own (Some f) = (f.size + 4095) / 4096
 abbrev count_own : Own → ℕ
 count_own own = own_blocks own own.file
 
-blocks_entry : (o : Own) (file : Option File) (less more : Unfolded) → blocks (entry o file less more) ≡ own_blocks o file + (blocks less + blocks more)
+blocks_entry : (o : Own) (file : Option File) (less more : Unfolded) → blocks (entry_above o file less more) ≡ own_blocks o file + (blocks less + blocks more)
 blocks_entry o None less more = omega arith
 blocks_entry o (Some f) less more = omega arith
 
-blocks_entries : (t : Treap Own) → blocks (entries t) ≡ sum_in count_own t
+blocks_entries : (t : Treap Own) → blocks (unfolded_entries t) ≡ sum_in count_own t
 blocks_entries Empty = refl
-blocks_entries (Over o l m) = let e = blocks_entry o o.file (entries l) (entries m) in let a = blocks_entries l in let b = blocks_entries m in omega (arith, e, a, b)
+blocks_entries (Over o l m) = let e = blocks_entry o o.file (unfolded_entries l) (unfolded_entries m) in let a = blocks_entries l in let b = blocks_entries m in omega (arith, e, a, b)
 
 most_blocks : (size : ℕ) → size ≤ most_length → (size + 4095) / 4096 ≤ 65536
 most_blocks size h = omega (arith, h)
 
-blocks_owns : (order : List ℕ) (rows : Rows) → AllFiles IsShort rows → sum_row count_own (owns order rows) ≤ 65536 * rows_in rows
+blocks_owns : (order : List ℕ) (rows : Rows) → AllFiles FitsRecord rows → sum_row count_own (owns order rows) ≤ 65536 * rows_in rows
 blocks_owns order End s = omega arith
 blocks_owns order (Row id name None inside next) s =
     let e = blocks_entries (treap (beside (priority order) own_id) (owns order inside)) in
@@ -250,7 +250,7 @@ blocks_owns order (Row id name None inside next) s =
     let a = blocks_owns order inside s.1 in let b = blocks_owns order next s.2 in omega (arith, e, t, a, b)
 blocks_owns order (Row id name (Some f) inside next) s = let a = most_blocks f.size s.0 in let b = blocks_owns order next s.2 in omega (arith, a, b)
 
-blocks_rows : (order : List ℕ) (rows : Rows) → AllFiles IsShort rows → blocks (directory order rows) ≤ 65536 * rows_in rows
+blocks_rows : (order : List ℕ) (rows : Rows) → AllFiles FitsRecord rows → blocks (directory order rows) ≤ 65536 * rows_in rows
 unfolding directory
 blocks_rows order rows s =
     let e = blocks_entries (treap (beside (priority order) own_id) (owns order rows)) in
@@ -306,7 +306,7 @@ nodes_fit order t n u node s x e f = by (seen order t n u s e) where
 
   visible : AreRows t.age t.visible
   visible = record {
-    given = λ i h. (let g = id_given i t.next (times i t.visible) (times i t.visible + times i t.trash) h (omega arith) (s.once i) in let a = s.next in let b = s.age in let c = g.1 in (g.0, omega (arith, a, b, c)));
+    given = λ i h. (let g = id_given i t.next (times_given i t.visible) (times_given i t.visible + times_given i t.trash) h (omega arith) (s.once i) in let a = s.next in let b = s.age in let c = g.1 in (g.0, omega (arith, a, b, c)));
     ordered = s.ordered;
     texts = x.0;
     short = s.short;
@@ -315,7 +315,7 @@ nodes_fit order t n u node s x e f = by (seen order t n u s e) where
 
   trash : AreRows t.age t.trash
   trash = record {
-    given = λ i h. (let g = id_given i t.next (times i t.trash) (times i t.visible + times i t.trash) h (omega arith) (s.once i) in let a = s.next in let b = s.age in let c = g.1 in (g.0, omega (arith, a, b, c)));
+    given = λ i h. (let g = id_given i t.next (times_given i t.trash) (times_given i t.visible + times_given i t.trash) h (omega arith) (s.once i) in let a = s.next in let b = s.age in let c = g.1 in (g.0, omega (arith, a, b, c)));
     ordered = trash_ordered t.trash s.trash_ordered;
     texts = x.1;
     short = s.trash_short;

@@ -13,7 +13,7 @@ use Rattle.iris_name.specs.declared.name.Name.{Name}
 use Rattle.iris_name.specs.declared.name.Name.TheVariants.{Entry, Part, Block}
 use Rattle.iris_mac.specs.declared.keys.Keys.{Keys}
 use Rattle.iris_node.specs.Spelling.{spelling}
-use Rattle.iris_node.specs.Unfolded.{Unfolded, Absent, Folder, link_to, node_of, node_record, spelled as node_spelled}
+use Rattle.iris_node.specs.Unfolded.{Unfolded, Absent, Folder, link_to, node_of, node_record, spelled_node as node_spelled}
 use Rattle.iris_node.specs.declared.node.Body.TheVariants.{Dir}
 use Rattle.iris_node.specs.declared.node.Link.{Link}
 use Rattle.iris_node.specs.declared.node.Node.{Node}
@@ -27,7 +27,7 @@ use Rattle.iris_table.specs.Places.{Kept, file_of}
 use Rattle.iris_table.specs.Records.{Records, looked, spelled, AreLive, AreInOrder, root_hash}
 use Rattle.iris_table.specs.Rows.{Rows, End, Row}
 use Rattle.iris_table.specs.Shown.{directory, in_directory, in_file, inside_rows, shown}
-use Rattle.iris_table.specs.Sound.{times, is_step, IsOrdered, IsTrash, IsSound}
+use Rattle.iris_table.specs.Sound.{times_given, is_step, IsOrdered, IsTrash, IsSound}
 use Rattle.iris_table.specs.Stops.{table_over}
 use Rattle.iris_table.specs.Pieces.{Adds}
 use Rattle.iris_table.specs.Walks.{told, own_of, link_blocks, IsItem, IsRising, IsFit, AreFit, AreStored, inside_item, inside_items, among_items, root_of_items, shown_items}
@@ -198,8 +198,8 @@ rising_of (Row id name file inside next) o = (o.1, rising_of next o.3)
 -- items of an ordered forest whose ids stand once fit
 pub record Fits (d : ℕ) (items : List Item) : Type 0 where
   pub ordered : (k : ℕ) → k ≤ d → IsOrdered (grown k items)
-  pub once : (i k : ℕ) → k ≤ d → times i (grown k items) ≤ 1
-  pub given : (i k : ℕ) → k ≤ d → 1 ≤ times i (grown k items) → 2 ≤ i
+  pub once : (i k : ℕ) → k ≤ d → times_given i (grown k items) ≤ 1
+  pub given : (i k : ℕ) → k ≤ d → 1 ≤ times_given i (grown k items) → 2 ≤ i
 
 pub fits_all : (d : ℕ) (items : List Item) → IsForestTo d items → Fits d items → AreFit items
 fits_all d [] f h = tt
@@ -210,11 +210,11 @@ fits_all d (item ∷ items) f h = (fit, fits_all (most_depth item item.file) ite
   ordered : IsOrdered (Row item.id.0 item.name (kept_file item.file) (grown (item.depth + 1) items) (grown item.depth items))
   ordered = subst IsOrdered here (h.ordered item.depth f.0)
 
-  once : (i : ℕ) → times i (Row item.id.0 item.name (kept_file item.file) (grown (item.depth + 1) items) (grown item.depth items)) ≤ 1
-  once i = subst (λ z. times i z ≤ 1) here (h.once i item.depth f.0)
+  once : (i : ℕ) → times_given i (Row item.id.0 item.name (kept_file item.file) (grown (item.depth + 1) items) (grown item.depth items)) ≤ 1
+  once i = subst (λ z. times_given i z ≤ 1) here (h.once i item.depth f.0)
 
-  given : (i : ℕ) → 1 ≤ times i (Row item.id.0 item.name (kept_file item.file) (grown (item.depth + 1) items) (grown item.depth items)) → 2 ≤ i
-  given i l = h.given i item.depth f.0 (subst (λ z. 1 ≤ times i z) (sym here) l)
+  given : (i : ℕ) → 1 ≤ times_given i (Row item.id.0 item.name (kept_file item.file) (grown (item.depth + 1) items) (grown item.depth items)) → 2 ≤ i
+  given i l = h.given i item.depth f.0 (subst (λ z. 1 ≤ times_given i z) (sym here) l)
 
   fit : IsFit item items
   fit = record {
@@ -240,14 +240,14 @@ fits_all d (item ∷ items) f h = (fit, fits_all (most_depth item item.file) ite
   next : (file : Option Kept) → Fits (most_depth item file) items
   next file = record {
     ordered = λ k l. at IsOrdered h.ordered ordered.3 ordered.2 k (most file k l);
-    once = λ i k l. at (λ z. times i z ≤ 1) (λ k l. h.once i k l) (let o = once i in omega (arith, o)) (let o = once i in omega (arith, o)) k (most file k l);
-    given = λ i k l. at (λ z. 1 ≤ times i z → 2 ≤ i) (λ k l. h.given i k l) (λ o. given i (omega (arith, o))) (λ o. given i (omega (arith, o))) k (most file k l);
+    once = λ i k l. at (λ z. times_given i z ≤ 1) (λ k l. h.once i k l) (let o = once i in omega (arith, o)) (let o = once i in omega (arith, o)) k (most file k l);
+    given = λ i k l. at (λ z. 1 ≤ times_given i z → 2 ≤ i) (λ k l. h.given i k l) (λ o. given i (omega (arith, o))) (λ o. given i (omega (arith, o))) k (most file k l);
   }
 
 zero_only : (k : ℕ) → k ≤ 0 → 0 ≡ k
 zero_only k l = omega (arith, l)
 
-pub stored : (items : List Item) (next : ℕ) → IsForest items → IsOrdered (grown 0 items) → ((i : ℕ) → times i (grown 0 items) ≤ cond (nat_le 2 i && nat_lt i next) 1 0) → AreStored items
+pub stored : (items : List Item) (next : ℕ) → IsForest items → IsOrdered (grown 0 items) → ((i : ℕ) → times_given i (grown 0 items) ≤ cond (nat_le 2 i && nat_lt i next) 1 0) → AreStored items
 stored items next f o h = record { fit = fits_all 0 items f fits; once = λ i. most i; rising = rising_of (grown 0 items) o } where
   bound : (i n : ℕ) → n ≤ cond (nat_le 2 i && nat_lt i next) 1 0 → (n ≤ 1) × (1 ≤ n → 2 ≤ i)
   bound i n h = by (nat_le 2 i) refl (nat_lt i next) h where
@@ -256,14 +256,14 @@ stored items next f o h = record { fit = fits_all 0 items f fits; once = λ i. m
     by true e false h = (omega (arith, h), λ l. absurd (omega (arith, h, l)))
     by false e b h = (omega (arith, h), λ l. absurd (omega (arith, h, l)))
 
-  most : (i : ℕ) → times i (grown 0 items) ≤ 1
+  most : (i : ℕ) → times_given i (grown 0 items) ≤ 1
   most i = (bound i _ (h i)).0
 
   fits : Fits 0 items
   fits = record {
     ordered = λ k l. subst (λ z. IsOrdered (grown z items)) (zero_only k l) o;
-    once = λ i k l. subst (λ z. times i (grown z items) ≤ 1) (zero_only k l) (most i);
-    given = λ i k l. subst (λ z. 1 ≤ times i (grown z items) → 2 ≤ i) (zero_only k l) (bound i _ (h i)).1;
+    once = λ i k l. subst (λ z. times_given i (grown z items) ≤ 1) (zero_only k l) (most i);
+    given = λ i k l. subst (λ z. 1 ≤ times_given i (grown z items) → 2 ≤ i) (zero_only k l) (bound i _ (h i)).1;
   }
 
 pub visible_stored : (visible trash : List Item) (next age : ℕ) → IsForest visible → IsSound (table_over visible trash next age) → AreStored visible

@@ -1,22 +1,22 @@
 -- Each change of rows keeps what holds of every file among them.
 use Rattle.std.proofs.Common.{◌≡◌, ℕ, List, [], ◌∷◌, Bool, true, false, cond, Option, Some, None, refl, subst}
 use Rattle.std.specs.Str.{bytes_eq}
-use Rattle.iris_plain.specs.Routes.{before}
-use Rattle.iris_table.specs.Rows.{File, Rows, End, Row, Taken, find, put, without, at, file_at, on_file, Here, resolved, followed, entered}
+use Rattle.iris_plain.specs.Routes.{is_name_before}
+use Rattle.iris_table.specs.Rows.{File, Rows, End, Row, Taken, find, with_row, without_row, at, file_at, on_file, Here, resolved, followed, entered}
 use Rattle.iris_table.specs.Sound.{IsGood, AreGood, OnFile, AllFiles}
 
 module _ (P : File → Type 0) where
-  pub all_put : (n : List ℕ) (new : Taken) (rows : Rows) → OnFile P new.file → AllFiles P new.inside → AllFiles P rows → AllFiles P (put n new rows)
+  pub all_put : (n : List ℕ) (new : Taken) (rows : Rows) → OnFile P new.file → AllFiles P new.inside → AllFiles P rows → AllFiles P (with_row n new rows)
   all_put n new End g h d = (g, h, tt)
-  all_put n new (Row id name file inside next) g h d = by (before n name) (all_put n new next g h d.2) where
-    by : (b : Bool) → AllFiles P (put n new next) → AllFiles P (cond b (Row new.id n new.file new.inside (Row id name file inside next)) (Row id name file inside (put n new next)))
+  all_put n new (Row id name file inside next) g h d = by (is_name_before n name) (all_put n new next g h d.2) where
+    by : (b : Bool) → AllFiles P (with_row n new next) → AllFiles P (cond b (Row new.id n new.file new.inside (Row id name file inside next)) (Row id name file inside (with_row n new next)))
     by true k = (g, h, d)
     by false k = (d.0, d.1, k)
 
-  pub all_without : (n : List ℕ) (rows : Rows) → AllFiles P rows → AllFiles P (without n rows)
+  pub all_without : (n : List ℕ) (rows : Rows) → AllFiles P rows → AllFiles P (without_row n rows)
   all_without n End d = tt
   all_without n (Row id name file inside next) d = by (bytes_eq n name) (all_without n next d.2) where
-    by : (b : Bool) → AllFiles P (without n next) → AllFiles P (cond b next (Row id name file inside (without n next)))
+    by : (b : Bool) → AllFiles P (without_row n next) → AllFiles P (cond b next (Row id name file inside (without_row n next)))
     by true k = d.2
     by false k = (d.0, d.1, k)
 

@@ -8,7 +8,7 @@ use Rattle.iris_table.specs.declared.item.Item.{Item}
 use Rattle.iris_table.specs.declared.records.Told.{Told}
 use Rattle.iris_table.specs.Items.{grown, kept_file}
 use Rattle.iris_table.specs.Rows.{End, Row}
-use Rattle.iris_table.specs.Shown.{arranged, owns, directory}
+use Rattle.iris_table.specs.Shown.{treap_of_entries, owns, directory}
 use Rattle.iris_table.specs.Walks.{row_of, told, own_of, all_owns}
 
 pub grown_above : (d : ℕ) (item : Item) (rest : List Item) → item.depth < d → grown d (item ∷ rest) ≡ End
@@ -35,7 +35,7 @@ owns_row : (order : List ℕ) (d : ℕ) (item : Item) (rest : List Item) → ite
     → owns order (Row item.id.0 item.name (kept_file item.file) (grown (d + 1) rest) (grown d rest)) ≡ own_of order item rest ∷ owns order (grown d rest)
 unfolding directory
 owns_row order d item rest h =
-    ap (λ z. record { id = item.id.0; name = item.name; file = kept_file item.file; inside = arranged order (owns order (grown (z + 1) rest)) } ∷ owns order (grown d rest)) (sym h)
+    ap (λ z. record { id = item.id.0; name = item.name; file = kept_file item.file; inside = treap_of_entries order (owns order (grown (z + 1) rest)) } ∷ owns order (grown d rest)) (sym h)
 
 pub owns_here : (order : List ℕ) (d : ℕ) (item : Item) (rest : List Item) → item.depth ≡ d → owns order (grown d (item ∷ rest)) ≡ own_of order item rest ∷ owns order (grown d rest)
 owns_here order d item rest h = ap (owns order) (grown_here d item rest h) ∙ owns_row order d item rest h

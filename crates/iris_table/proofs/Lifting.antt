@@ -3,7 +3,7 @@ use Rattle.std.proofs.Common.{◌≡◌, ℕ, suc, ◌+◌, ◌-◌, ◌^◌, �
 use Rattle.std.proofs.lemmas.List.{drop_more, drop-drop, take_at}
 use Rattle.iris_table.specs.declared.item.Item.{Item}
 use Rattle.iris_table.specs.Items.{grown, kept_file, IsForest, IsForestTo, most_depth}
-use Rattle.iris_table.specs.Stops.{deeper, relabelled, renamed, AreWithin, IsRun, run_row, run_length, after_run}
+use Rattle.iris_table.specs.Stops.{deeper, relabelled, first_renamed, AreWithin, IsRun, run_row, run_length, after_run}
 use Rattle.iris_table.proofs.Foresting.{most_at, forest_from, forest_joined, forest_front, forest_after, forest_relabelled, forest_within, most_bound, relabelled_deeper, most_most}
 use Rattle.iris_table.proofs.Placing.{run_rows, run_deeper, relabelled_rows}
 
@@ -11,7 +11,7 @@ use Rattle.iris_table.proofs.Placing.{run_rows, run_deeper, relabelled_rows}
 pub written_back : (n : ℕ) (new old : List Item) → n ≡ length new → take n (new ++ drop (length new) old) ≡ new
 written_back n new old e = take_at new (drop (length new) old) n (sym e)
 
-pub renamed_length : (name : List ℕ) (items : List Item) → length (renamed name items) ≡ length items
+pub renamed_length : (name : List ℕ) (items : List Item) → length (first_renamed name items) ≡ length items
 renamed_length name [] = refl
 renamed_length name (i ∷ items) = omega arith
 
@@ -50,20 +50,20 @@ module _ (items : List Item) (place to count : ℕ) (i : Item) (within : place <
   pub depths_fit : AreWithin i.depth to (take count (drop place items))
   depths_fit = let Q : List Item → Type 0 = λ z. AreWithin i.depth to z in subst Q (sym run_is) within_run
 
-  pub is_run : (name : List ℕ) → IsRun to name (renamed name (map (relabelled i.depth to) (take count (drop place items))))
+  pub is_run : (name : List ℕ) → IsRun to name (first_renamed name (map (relabelled i.depth to) (take count (drop place items))))
   is_run name =
-      let Q : List Item → Type 0 = λ z. IsRun to name (renamed name (map (relabelled i.depth to) z)) in
+      let Q : List Item → Type 0 = λ z. IsRun to name (first_renamed name (map (relabelled i.depth to) z)) in
       let P : ℕ → Type 0 = λ k. IsForestTo k (map (relabelled i.depth to) (i ∷ inside)) in
       let e : i.depth - i.depth + to ≡ to = omega arith in
       let f = subst P e (forest_relabelled i.depth to i.depth (i ∷ inside) within_run (omega arith) (omega arith, inside_forest)) in
       subst Q (sym run_is) (e, refl, relabelled_deeper i.depth to inside (run_deeper i.depth rest), (f.0, f.1))
 
-  pub same_row : (name : List ℕ) → run_row (renamed name (map (relabelled i.depth to) (take count (drop place items)))) ≡ run_row (drop place items)
+  pub same_row : (name : List ℕ) → run_row (first_renamed name (map (relabelled i.depth to) (take count (drop place items)))) ≡ run_row (drop place items)
   same_row name =
       let e : i.depth - i.depth + to + 1 ≡ to + 1 = omega arith in
       let inner : grown (i.depth - i.depth + to + 1) (map (relabelled i.depth to) inside) ≡ grown (i.depth + 1) rest =
       ap (λ k. grown k (map (relabelled i.depth to) inside)) e ∙ relabelled_rows i.depth to inside (run_deeper i.depth rest) 1 (omega arith) ∙ run_rows i.depth (i.depth + 1) rest (omega arith) in
-      ap (λ z. run_row (renamed name (map (relabelled i.depth to) z))) run_is ∙ ap (λ z. record { id = i.id.0; file = kept_file i.file; inside = z }) inner ∙ ap run_row (sym here)
+      ap (λ z. run_row (first_renamed name (map (relabelled i.depth to) z))) run_is ∙ ap (λ z. record { id = i.id.0; file = kept_file i.file; inside = z }) inner ∙ ap run_row (sym here)
 
   pub left_is : take place items ++ drop (place + count) items ≡ take place items ++ after_run (drop place items)
   left_is =

@@ -12,7 +12,7 @@ use Rattle.iris_table.specs.Records.{Records}
 use Rattle.iris_table.specs.Shown.{Own, in_directory}
 use Rattle.iris_table.specs.Unmade.{unmade_treap}
 use Rattle.iris_table.specs.Pieces.{Adds}
-use Rattle.iris_table.specs.Walks.{placed, entry_at, own_at, at_top, ArePlacesOf, nodes}
+use Rattle.iris_table.specs.Walks.{placed, placed_entry, own_at, at_top, ArePlacesOf, nodes}
 use Rattle.iris_table.proofs.Entering.{directory_over}
 use Rattle.iris_table.proofs.Parting.{adds_same, adds_twice}
 use Rattle.iris_table.proofs.Unmaking.{unmade_over}
@@ -49,12 +49,12 @@ empty_puts owns key x s e = subst (λ z. Adds key (λ n. in_directory n (placed 
   none (Block f p) = refl
 
 pub over_puts : (owns : List Own) (key : List ℕ) (row : ℕ) (x less more : Treap ℕ) (a b c d : Records) → x ≡ Over row less more
-    → Adds key (λ n. in_directory n (placed owns more)) a b → Adds key (λ n. in_directory n (placed owns less)) b c → Adds key (λ n. at_top n (entry_at owns row (placed owns less) (placed owns more))) c d
+    → Adds key (λ n. in_directory n (placed owns more)) a b → Adds key (λ n. in_directory n (placed owns less)) b c → Adds key (λ n. at_top n (placed_entry owns row (placed owns less) (placed owns more))) c d
     → Adds key (λ n. in_directory n (placed owns x)) a d
 over_puts owns key row x less more a b c d e h k l = subst (λ z. Adds key (λ n. in_directory n (placed owns z)) a d) (sym e)
     (adds_same key _ (λ n. in_directory n (placed owns (Over row less more))) a d (λ n. directory_over n (own_at owns row) (own_at owns row).file (placed owns less) (placed owns more))
-    (adds_twice key _ (λ n. at_top n (entry_at owns row (placed owns less) (placed owns more))) a c d (adds_twice key (λ n. in_directory n (placed owns more)) (λ n. in_directory n (placed owns less)) a b c h k) l))
+    (adds_twice key _ (λ n. at_top n (placed_entry owns row (placed owns less) (placed owns more))) a c d (adds_twice key (λ n. in_directory n (placed owns more)) (λ n. in_directory n (placed owns less)) a b c h k) l))
 
 pub over_link : (owns : List Own) (row : ℕ) (x less more : Treap ℕ) (l : Option Link) → x ≡ Over row less more
-    → l ≡ link_to (entry_at owns row (placed owns less) (placed owns more)) (node_of (entry_at owns row (placed owns less) (placed owns more))) → l ≡ link_to (placed owns x) (node_of (placed owns x))
+    → l ≡ link_to (placed_entry owns row (placed owns less) (placed owns more)) (node_of (placed_entry owns row (placed owns less) (placed owns more))) → l ≡ link_to (placed owns x) (node_of (placed owns x))
 over_link owns row x less more l e h = subst (λ z. l ≡ link_to (placed owns z) (node_of (placed owns z))) (sym e) h

@@ -1,7 +1,7 @@
 -- A directory that is there, its rows among items, and what lies at a path of one more name.
 use Rattle.std.proofs.Common.{◌≡◌, ℕ, zero, suc, ◌+◌, ◌-◌, ◌<◌, List, [], ◌∷◌, ◌++◌, length, get_or, take, drop, true, false, Option, Some, None, refl, sym, ◌∙◌, ap, subst, arith, append_assoc}
 use Rattle.std.proofs.lemmas.List.{drop-drop, take_all, length-drop}
-use Rattle.iris_plain.specs.Checks.{is_dir}
+use Rattle.iris_plain.specs.Checks.{is_directory_seen}
 use Rattle.iris_plain.specs.Routes.{parent, last}
 use Rattle.iris_plain.specs.Pages.{NoneLater, IsPage}
 use Rattle.iris_plain.specs.declared.checks.Seen.{Seen}
@@ -13,8 +13,8 @@ use Rattle.iris_table.specs.declared.rows.Stop.TheVariants.{Standing, Absent, Ba
 use Rattle.iris_table.specs.Changes.{seen_row, seen_file}
 use Rattle.iris_table.specs.Places.{Kept}
 use Rattle.iris_table.specs.Items.{grown, kept_file, IsForest, IsForestTo, most_depth}
-use Rattle.iris_table.specs.Rows.{Rows, Taken, Found, Here, Missing, Through, find, put, at}
-use Rattle.iris_table.specs.View.{look}
+use Rattle.iris_table.specs.Rows.{Rows, Taken, Found, Here, Missing, Through, find, with_row, at}
+use Rattle.iris_table.specs.View.{kind_below}
 use Rattle.iris_table.specs.Stops.{stop, met_in, root_of, run_row, first_inside, is_name_of, room, IsRun, first_name}
 use Rattle.iris_table.proofs.Changing.{IsChange}
 use Rattle.iris_table.proofs.Reaching.{is_standing, reaches_into}
@@ -50,7 +50,7 @@ front_more (suc k) (x ∷ xs) i others new e = ap (λ z. x ∷ z) (front_more k 
 
 module _ (items : List Item) (n : List ℕ) (ns : List (List ℕ)) where
   standing : (k : ℕ) (i : Item) (others : List Item) (file : Option Kept) → stop 0 (n ∷ ns) items ≡ Standing k → drop k items ≡ i ∷ others → i.depth ≡ 0 + length ns → i.file ≡ file
-      → is_dir (seen_file (kept_file file)) ≡ true → IsOpened items (n ∷ ns) (suc k)
+      → is_directory_seen (seen_file (kept_file file)) ≡ true → IsOpened items (n ∷ ns) (suc k)
   standing k i others None s e d f h =
       let rest : drop (suc k) items ≡ others = after_first k items i others e in
       let deep : i.depth + 1 ≡ length (n ∷ ns) = omega arith in
@@ -69,16 +69,16 @@ module _ (items : List Item) (n : List ℕ) (ns : List (List ℕ)) where
       }
   standing k i others (Some file) s e d f h = absurd (cc)
 
-  by_stop : (s : Stop) → stop 0 (n ∷ ns) items ≡ s → is_dir (seen_row (found items s)) ≡ true → IsOpened items (n ∷ ns) (first_inside (n ∷ ns) s)
+  by_stop : (s : Stop) → stop 0 (n ∷ ns) items ≡ s → is_directory_seen (seen_row (found items s)) ≡ true → IsOpened items (n ∷ ns) (first_inside (n ∷ ns) s)
   by_stop (Standing k) e h =
       let x = is_standing 0 n ns items k e in
-      standing k x.item x.others x.item.file e x.is x.depth refl (let y : seen_row (found items (Standing k)) ≡ seen_file (kept_file x.item.file) = ap (λ z. seen_row (Here (run_row z))) x.is in sym (ap is_dir y) ∙ h)
+      standing k x.item x.others x.item.file e x.is x.depth refl (let y : seen_row (found items (Standing k)) ≡ seen_file (kept_file x.item.file) = ap (λ z. seen_row (Here (run_row z))) x.is in sym (ap is_directory_seen y) ∙ h)
   by_stop Absent e h = absurd (cc)
   by_stop Barred e h = absurd (cc)
 
-pub opened : (items : List Item) (names : List (List ℕ)) → is_dir (seen_row (met_in items names)) ≡ true → IsOpened items names (first_inside names (stop 0 names items))
+pub opened : (items : List Item) (names : List (List ℕ)) → is_directory_seen (seen_row (met_in items names)) ≡ true → IsOpened items names (first_inside names (stop 0 names items))
 opened items [] h = record { id = 0; inside = refl; changes = λ F new c. c; most = refl }
-opened items (n ∷ ns) h = by_stop items n ns (stop 0 (n ∷ ns) items) refl (ap (λ z. is_dir (seen_row z)) (sym (met_stop items (n ∷ ns) (omega arith))) ∙ h)
+opened items (n ∷ ns) h = by_stop items n ns (stop 0 (n ∷ ns) items) refl (ap (λ z. is_directory_seen (seen_row z)) (sym (met_stop items (n ∷ ns) (omega arith))) ∙ h)
 
 -- what stands below what resolving met
 abbrev beyond : Found → List ℕ → Option Taken
@@ -113,9 +113,9 @@ take_sum (suc a) b [] = none_left (suc a + b) [] refl ∙ sym (none_left b [] re
 take_sum (suc a) b (x ∷ xs) = let e : suc a + b ≡ suc (a + b) = omega arith in ap (λ k. take k (x ∷ xs)) e ∙ ap (λ z. x ∷ z) (take_sum a b xs)
 
 -- a run put into a directory
-pub with_run : (d : ℕ) (n : List ℕ) (run xs : List Item) → IsRun d n run → IsChange d (put n (run_row run)) xs (take (room d n xs) xs ++ (run ++ drop (room d n xs) xs))
+pub with_run : (d : ℕ) (n : List ℕ) (run xs : List Item) → IsRun d n run → IsChange d (with_row n (run_row run)) xs (take (room d n xs) xs ++ (run ++ drop (room d n xs) xs))
 with_run d n [] xs r = absurd r
-with_run d n (i ∷ rest) xs r = let Q : List ℕ → Type 0 = λ m. IsChange d (put m (run_row (i ∷ rest))) xs (take (room d m xs) xs ++ ((i ∷ rest) ++ drop (room d m xs) xs)) in subst Q r.1 (put_in d i rest r.0 r.2 xs)
+with_run d n (i ∷ rest) xs r = let Q : List ℕ → Type 0 = λ m. IsChange d (with_row m (run_row (i ∷ rest))) xs (take (room d m xs) xs ++ ((i ∷ rest) ++ drop (room d m xs) xs)) in subst Q r.1 (put_in d i rest r.0 r.2 xs)
 
 pub forest_with_run : (d : ℕ) (n : List ℕ) (run xs : List Item) → IsRun d n run → IsForestTo d xs → IsForestTo d (take (room d n xs) xs ++ (run ++ drop (room d n xs) xs))
 forest_with_run d n [] xs r f = absurd r
@@ -129,11 +129,11 @@ module _ (items : List Item) (names : List (List ℕ)) (from at_place : ℕ) (ru
       ∙ append_assoc (take from items) (take (room (length names - 1) (last names) (drop from items)) (drop from items)) (run ++ drop (from + room (length names - 1) (last names) (drop from items)) items)
       ∙ ap (λ z. take from items ++ (take (room (length names - 1) (last names) (drop from items)) (drop from items) ++ (run ++ z))) (ap (λ k. drop k items) (omega arith) ∙ sym (drop-drop (room (length names - 1) (last names) (drop from items)) from items))
 
-  pub put_rows : grown 0 (take at_place items ++ (run ++ drop at_place items)) ≡ at (parent names) (put (last names) (run_row run)) (grown 0 items)
+  pub put_rows : grown 0 (take at_place items ++ (run ++ drop at_place items)) ≡ at (parent names) (with_row (last names) (run_row run)) (grown 0 items)
   put_rows =
       let c = with_run (length names - 1) (last names) run (drop from items) r in
-      let Q : ℕ → Type 0 = λ d. IsChange d (put (last names) (run_row run)) (drop from items) (take (room (length names - 1) (last names) (drop from items)) (drop from items) ++ (run ++ drop (room (length names - 1) (last names) (drop from items)) (drop from items))) in
-      ap (grown 0) split ∙ (o.changes (put (last names) (run_row run)) _ (subst Q (sym (parent_length names)) c)).rows
+      let Q : ℕ → Type 0 = λ d. IsChange d (with_row (last names) (run_row run)) (drop from items) (take (room (length names - 1) (last names) (drop from items)) (drop from items) ++ (run ++ drop (room (length names - 1) (last names) (drop from items)) (drop from items))) in
+      ap (grown 0) split ∙ (o.changes (with_row (last names) (run_row run)) _ (subst Q (sym (parent_length names)) c)).rows
 
   pub put_forest : IsForest items → IsForest (take at_place items ++ (run ++ drop at_place items))
   put_forest f =
@@ -143,7 +143,7 @@ module _ (items : List Item) (names : List (List ℕ)) (from at_place : ℕ) (ru
       let e : most_at 0 from items ≡ length names - 1 = o.most ∙ parent_length names in
       subst Q (sym split) (forest_joined 0 from items _ f (subst R (sym e) (forest_with_run (length names - 1) (last names) run (drop from items) r (subst P e (forest_from 0 from items f)))))
 
-pub opened_at : (items : List Item) (names : List (List ℕ)) (from : ℕ) → is_dir (seen_row (met_in items (parent names))) ≡ true → from ≡ first_inside (take (length names - 1) names) (stop 0 (take (length names - 1) names) items) → IsOpened items (parent names) from
+pub opened_at : (items : List Item) (names : List (List ℕ)) (from : ℕ) → is_directory_seen (seen_row (met_in items (parent names))) ≡ true → from ≡ first_inside (take (length names - 1) names) (stop 0 (take (length names - 1) names) items) → IsOpened items (parent names) from
 opened_at items names from h e = let Q : ℕ → Type 0 = λ k. IsOpened items (parent names) k in subst Q (sym (e ∙ ap (λ z. first_inside z (stop 0 z items)) (parent_is names))) (opened items (parent names) h)
 
 pub place_at : (items : List Item) (names : List (List ℕ)) (from r : ℕ) (n : List ℕ) → 0 < length names → n ≡ get_or names (length names - 1) n → r ≡ room (length names - 1) n (drop from items) → from + r ≡ from + room (length names - 1) (last names) (drop from items)
@@ -160,22 +160,22 @@ leaf_run names items i n h e d f g = let Q : List Item → Type 0 = λ z. IsRun 
 
 -- a page of the directory at a path
 pub page_is : (items : List Item) (names : List (List ℕ)) (after : List ℕ) (page : List (List ℕ)) (from : ℕ) → ADirectory ≡ seen_row (met_in items names) → from ≡ first_inside names (stop 0 names items)
-    → IsPage (is_name_of (grown (length names) (drop from items))) 64 after page → IsPage (has_name (λ q. look q (root_of items)) names) 64 after page
+    → IsPage (is_name_of (grown (length names) (drop from items))) 64 after page → IsPage (has_name (λ q. kind_below q (root_of items)) names) 64 after page
 page_is items names after page from h e p =
     let Q : ℕ → Type 0 = λ k. IsOpened items names k in
-    let o : IsOpened items names from = subst Q (sym e) (opened items names (ap is_dir (sym h))) in
+    let o : IsOpened items names from = subst Q (sym e) (opened items names (ap is_directory_seen (sym h))) in
     page_alike _ _ 64 after page (page_names names (root_of items) (record { id = o.id; file = None; inside = grown (length names) (drop from items) }) o.inside refl) p
 
 pub page_rest : (items : List Item) (names : List (List ℕ)) (after : List ℕ) (page : List (List ℕ)) (from : ℕ) → ADirectory ≡ seen_row (met_in items names) → from ≡ first_inside names (stop 0 names items)
-    → IsPage (is_name_of (grown (length names) (take (length items - from) (drop from items)))) 64 after page → IsPage (has_name (λ q. look q (root_of items)) names) 64 after page
+    → IsPage (is_name_of (grown (length names) (take (length items - from) (drop from items)))) 64 after page → IsPage (has_name (λ q. kind_below q (root_of items)) names) 64 after page
 page_rest items names after page from h e p = let Q : List Item → Type 0 = λ z. IsPage (is_name_of (grown (length names) z)) 64 after page in
     page_is items names after page from h e (subst Q (take_all (length items - from) (drop from items) (omega (arith, length-drop from items))) p)
 
-no_dir : (s : Seen) → (s ≡ ADirectory → ⊥) → is_dir s ≡ false
+no_dir : (s : Seen) → (s ≡ ADirectory → ⊥) → is_directory_seen s ≡ false
 no_dir ADirectory h = absurd (h refl)
 no_dir (AFile size) h = refl
 no_dir Nothing h = refl
 no_dir AFileBefore h = refl
 
-pub page_none : (items : List Item) (names : List (List ℕ)) (after : List ℕ) (s : Seen) → s ≡ seen_row (met_in items names) → (s ≡ ADirectory → ⊥) → NoneLater (has_name (λ q. look q (root_of items)) names) after
-page_none items names after s e h = no_names names (root_of items) after (ap is_dir (sym e) ∙ no_dir s h)
+pub page_none : (items : List Item) (names : List (List ℕ)) (after : List ℕ) (s : Seen) → s ≡ seen_row (met_in items names) → (s ≡ ADirectory → ⊥) → NoneLater (has_name (λ q. kind_below q (root_of items)) names) after
+page_none items names after s e h = no_names names (root_of items) after (ap is_directory_seen (sym e) ∙ no_dir s h)

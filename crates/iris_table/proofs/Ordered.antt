@@ -6,11 +6,11 @@ use Rattle.iris_name.specs.declared.request.PlainError.{PlainError}
 use Rattle.iris_name.specs.declared.request.Request.{Request}
 use Rattle.iris_name.specs.declared.request.Request.TheVariants.{Mkdir, Create, Write, Read, Resize, Stat, List as ListNames, Rename, Remove, Sync, Root, Reclaim, Probe}
 use Rattle.iris_name.specs.Paths.{names_of}
-use Rattle.iris_plain.specs.Routes.{parent, last, is_top, is_front, under}
+use Rattle.iris_plain.specs.Routes.{parent, last, is_top, is_front, is_at_or_under}
 use Rattle.iris_plain.specs.Checks.{is_full, on_names, no_place, resize_checks, move_checks, size_of, blocks_of}
-use Rattle.iris_table.specs.Rows.{File, Rows, End, Row, Table, Taken, root, find, without, at, file_at, Found, Here, Missing, Through, met, empty_file, resolved, followed, entered}
-use Rattle.iris_table.specs.Changes.{written, cut, freed, filled, made, filed, gone, removed, moved, emptied, retrashed, reclaimed, seen_in, by_names, changed, stepped, table_verdict}
-use Rattle.iris_table.specs.View.{look, kind}
+use Rattle.iris_table.specs.Rows.{File, Rows, End, Row, Table, Taken, root_row, find, without_row, at, file_at, Found, Here, Missing, Through, met, empty_file, resolved, followed, entered}
+use Rattle.iris_table.specs.Changes.{file_written, cut, freed, count_written, made, filed, gone, removed, row_moved, emptied, retrashed, reclaimed, seen_in, changed_by_names, accepted_change, stepped, table_verdict}
+use Rattle.iris_table.specs.View.{kind_below, kind_of}
 use Rattle.iris_table.specs.Sound.{is_step, IsOrdered}
 use Rattle.iris_table.proofs.Steadies.{Steady}
 use Rattle.iris_table.proofs.Held.{holding}
@@ -33,19 +33,19 @@ ordered_here (n ∷ ns) from row e d = by from.file (find n from.inside) refl e 
   by (Some file) o f e ih = absurd (cc)
 
 ordered_gone : (t : Table) (names : List (List ℕ)) → IsOrdered t.visible → IsOrdered (gone names t)
-ordered_gone t names d = ordered_at (parent names) (without (last names)) t.visible (λ inner d. ordered_without (last names) inner d) d
+ordered_gone t names d = ordered_at (parent names) (without_row (last names)) t.visible (λ inner d. ordered_without (last names) inner d) d
 
 ordered_filed : (t : Table) (names : List (List ℕ)) (change : File → File) → IsOrdered t.visible → IsOrdered (filed change names t).visible
 ordered_filed t names change d = ordered_at (parent names) (file_at (last names) change) t.visible (λ inner d. ordered_file_at (last names) change inner d) d
 
 on_made : (t : Table) (o : Option (List (List ℕ))) (file : Option File) → AreNames o → IsOrdered t.visible → on_names o (no_place (seen_in t) (is_full t.age)) ≡ None
-    → IsOrdered (by_names t o (λ names. made file names t)).visible
+    → IsOrdered (changed_by_names t o (λ names. made file names t)).visible
 on_made t None file n d e = d
 on_made t (Some names) file n d e =
     let p = places (seen_in t (parent names)) (seen_in t names) (is_top names) (is_full t.age) e in
-    ordered_put_at names (record { id = t.next; file = file; inside = End }) (root t) (look_dir t (parent names) p.1) (look_none t names p.2) (n names refl) tt d
+    ordered_put_at names (record { id = t.next; file = file; inside = End }) (root_row t) (look_dir t (parent names) p.1) (look_none t names p.2) (n names refl) tt d
 
-on_removed : (t : Table) (o : Option (List (List ℕ))) → IsOrdered t.visible → IsOrdered (by_names t o (λ names. removed names t (met t names))).visible
+on_removed : (t : Table) (o : Option (List (List ℕ))) → IsOrdered t.visible → IsOrdered (changed_by_names t o (λ names. removed names t (met t names))).visible
 on_removed t None d = d
 on_removed t (Some names) d = by (met t names) where
   by : (f : Found) → IsOrdered (removed names t f).visible
@@ -54,48 +54,48 @@ on_removed t (Some names) d = by (met t names) where
   by Through = d
 
 moved_any : (t : Table) (n : List ℕ) (ns news : List (List ℕ)) → Steady t → list_all is_step news ≡ true → IsOrdered t.visible → is_front (n ∷ ns) news ≡ false → no_place (seen_in t) (is_full t.age) news ≡ None
-    → IsOrdered (moved (n ∷ ns) news t (met t (n ∷ ns))).visible
+    → IsOrdered (row_moved (n ∷ ns) news t (met t (n ∷ ns))).visible
 moved_any t n ns news s k d ahead e = by (met t (n ∷ ns)) refl where
-  by : (f : Found) → met t (n ∷ ns) ≡ f → IsOrdered (moved (n ∷ ns) news t f).visible
+  by : (f : Found) → met t (n ∷ ns) ≡ f → IsOrdered (row_moved (n ∷ ns) news t f).visible
   by (Here row) h =
       let p = places (seen_in t (parent news)) (seen_in t news) (is_top news) (is_full t.age) e in
-      let u : under (n ∷ ns) (parent news) ≡ false = not_under _ (λ x. let y = front (n ∷ ns) news p.0 x in absurd (let z = sym ahead ∙ y in cc)) in
-      ordered_put_at news row (holding (gone (n ∷ ns) t) (root t))
-      (cleared_at (n ∷ ns) t (parent news) refl s.distinct ∙ ap (λ b. cond b None (look (parent news) (root t))) u ∙ look_dir t (parent news) p.1)
+      let u : is_at_or_under (n ∷ ns) (parent news) ≡ false = not_under _ (λ x. let y = front (n ∷ ns) news p.0 x in absurd (let z = sym ahead ∙ y in cc)) in
+      ordered_put_at news row (holding (gone (n ∷ ns) t) (root_row t))
+      (cleared_at (n ∷ ns) t (parent news) refl s.distinct ∙ ap (λ b. cond b None (kind_below (parent news) (root_row t))) u ∙ look_dir t (parent news) p.1)
       (cleared_at (n ∷ ns) t news refl s.distinct ∙ both_none _ _ (look_none t news p.2))
-      k (ordered_here (n ∷ ns) (root t) row h d) (ordered_gone t (n ∷ ns) d)
+      k (ordered_here (n ∷ ns) (root_row t) row h d) (ordered_gone t (n ∷ ns) d)
   by Missing h = d
   by Through h = d
 
 on_moved : (t : Table) (o k : Option (List (List ℕ))) → AreNames k → Steady t → IsOrdered t.visible
     → on_names o (λ olds. on_names k (λ news. move_checks (is_top olds) (seen_in t olds) (is_front olds news) (no_place (seen_in t) (is_full t.age) news))) ≡ None
-    → IsOrdered (by_names t o (λ olds. by_names t k (λ news. moved olds news t (met t olds)))).visible
+    → IsOrdered (changed_by_names t o (λ olds. changed_by_names t k (λ news. row_moved olds news t (met t olds)))).visible
 on_moved t None k m s d e = d
 on_moved t (Some olds) None m s d e = d
 on_moved t (Some []) (Some news) m s d e = absurd (cc)
 on_moved t (Some (n ∷ ns)) (Some news) m s d e = let p = moves (seen_in t (n ∷ ns)) false (is_front (n ∷ ns) news) _ e in moved_any t n ns news s (m news refl) d p.2 p.3
 
-on_written : (t : Table) (o : Option (List (List ℕ))) (offset : ℕ) (bytes : List ℕ) → IsOrdered t.visible → IsOrdered (by_names t o (λ names. cond (length bytes == 0) t (filed (written offset bytes) names t))).visible
+on_written : (t : Table) (o : Option (List (List ℕ))) (offset : ℕ) (bytes : List ℕ) → IsOrdered t.visible → IsOrdered (changed_by_names t o (λ names. cond (length bytes == 0) t (filed (file_written offset bytes) names t))).visible
 on_written t None offset bytes d = d
 on_written t (Some names) offset bytes d = by (length bytes == 0) where
-  by : (b : Bool) → IsOrdered (cond b t (filed (written offset bytes) names t)).visible
+  by : (b : Bool) → IsOrdered (cond b t (filed (file_written offset bytes) names t)).visible
   by true = d
-  by false = ordered_filed t names (written offset bytes) d
+  by false = ordered_filed t names (file_written offset bytes) d
 
 emptied_any : (t : Table) (n : List ℕ) (ns : List (List ℕ)) → Steady t → list_all is_step (n ∷ ns) ≡ true → IsOrdered t.visible → IsOrdered (emptied (n ∷ ns) t (met t (n ∷ ns))).visible
 emptied_any t n ns s k d = by (met t (n ∷ ns)) refl where
   by : (f : Found) → met t (n ∷ ns) ≡ f → IsOrdered (emptied (n ∷ ns) t f).visible
   by (Here row) h =
-      let there : look (n ∷ ns) (root t) ≡ Some (kind row.file) = look_resolved (n ∷ ns) (root t) ∙ ap kind_of h in
-      ordered_put_at (n ∷ ns) (record { id = t.next; file = Some empty_file; inside = End }) (holding (gone (n ∷ ns) t) (root t))
-      (cleared_at (n ∷ ns) t (parent (n ∷ ns)) refl s.distinct ∙ ap (λ b. cond b None (look (parent (n ∷ ns)) (root t))) (not_under_parent n ns) ∙ parent_dir n ns (root t) (kind row.file) there)
-      (cleared_at (n ∷ ns) t (n ∷ ns) refl s.distinct ∙ ap (λ b. cond b None (look (n ∷ ns) (root t))) (under_self (n ∷ ns)))
+      let there : kind_below (n ∷ ns) (root_row t) ≡ Some (kind_of row.file) = look_resolved (n ∷ ns) (root_row t) ∙ ap kind_of h in
+      ordered_put_at (n ∷ ns) (record { id = t.next; file = Some empty_file; inside = End }) (holding (gone (n ∷ ns) t) (root_row t))
+      (cleared_at (n ∷ ns) t (parent (n ∷ ns)) refl s.distinct ∙ ap (λ b. cond b None (kind_below (parent (n ∷ ns)) (root_row t))) (not_under_parent n ns) ∙ parent_dir n ns (root_row t) (kind_of row.file) there)
+      (cleared_at (n ∷ ns) t (n ∷ ns) refl s.distinct ∙ ap (λ b. cond b None (kind_below (n ∷ ns) (root_row t))) (under_self (n ∷ ns)))
       k tt (ordered_gone t (n ∷ ns) d)
   by Missing h = d
   by Through h = d
 
 on_resized : (t : Table) (o : Option (List (List ℕ))) (size : ℕ) → AreNames o → Steady t → IsOrdered t.visible → on_names o (λ names. resize_checks (seen_in t names) size (is_full t.age)) ≡ None
-    → IsOrdered (by_names t o (λ names. cond (size == size_of (seen_in t names)) t (cond (size == 0) (emptied names t (met t names)) (filed (cut size) names t)))).visible
+    → IsOrdered (changed_by_names t o (λ names. cond (size == size_of (seen_in t names)) t (cond (size == 0) (emptied names t (met t names)) (filed (cut size) names t)))).visible
 on_resized t None size k s d e = d
 on_resized t (Some []) size k s d e = absurd (cc)
 on_resized t (Some (n ∷ ns)) size k s d e = by (size == size_of (seen_in t (n ∷ ns))) (size == 0) where
@@ -108,12 +108,12 @@ on_reclaimed : (t : Table) (rows : Rows) → IsOrdered t.visible → IsOrdered (
 on_reclaimed t End d = d
 on_reclaimed t (Row id name None End next) d = d
 on_reclaimed t (Row id name None (Row i n file inside others) next) d = d
-on_reclaimed t (Row id name (Some file) inside next) d = by (filled file.version (blocks_of file.size) == 0) where
+on_reclaimed t (Row id name (Some file) inside next) d = by (count_written file.version (blocks_of file.size) == 0) where
   by : (b : Bool) → IsOrdered (cond b (retrashed next t) (retrashed (Row id name (Some (freed file)) inside next) t)).visible
   by true = d
   by false = d
 
-changed_ordered : (t : Table) (r : Request) → Steady t → IsOrdered t.visible → table_verdict t r ≡ None → IsOrdered (changed t r).visible
+changed_ordered : (t : Table) (r : Request) → Steady t → IsOrdered t.visible → table_verdict t r ≡ None → IsOrdered (accepted_change t r).visible
 changed_ordered t (Mkdir path) s d e = on_made t (names_of path) None (names_are path) d e
 changed_ordered t (Create path) s d e = on_made t (names_of path) (Some empty_file) (names_are path) d e
 changed_ordered t (Write path offset bytes) s d e = on_written t (names_of path) offset bytes d
@@ -131,6 +131,6 @@ changed_ordered t (Probe at) s d e = d
 -- the names of the next table rise
 pub ordered_kept : (t : Table) (r : Request) → Steady t → IsOrdered t.visible → IsOrdered (stepped t r).visible
 ordered_kept t r s d = by (table_verdict t r) refl where
-  by : (v : Option PlainError) → table_verdict t r ≡ v → IsOrdered (cond (is_none v) (changed t r) t).visible
+  by : (v : Option PlainError) → table_verdict t r ≡ v → IsOrdered (cond (is_none v) (accepted_change t r) t).visible
   by None e = changed_ordered t r s d e
   by (Some x) e = d

@@ -9,8 +9,8 @@ use Rattle.iris_table.specs.declared.file.Place.{Place}
 use Rattle.iris_table.specs.Rows.{zeros}
 use Rattle.iris_table.specs.Sound.{ArePages}
 use Rattle.iris_table.specs.View.{joined}
-use Rattle.iris_table.specs.Changes.{filled}
-use Rattle.iris_table.specs.Places.{IsPaged, IsPlace, ArePlaces, version_of, block_in, block_of, version_at, block_at, hole, paged, put_pages}
+use Rattle.iris_table.specs.Changes.{count_written}
+use Rattle.iris_table.specs.Places.{IsPaged, IsPlace, ArePlaces, place_version, page_block, block_of, version_at, block_at, hole, paged, put_pages}
 use Rattle.iris_table.proofs.Resize.{length-zeros}
 use Rattle.iris_table.proofs.Content.{less_or}
 
@@ -43,7 +43,7 @@ get-holes (suc n) zero = inl refl
 get-holes (suc n) (suc p) = get-holes n p
 
 pub version-holes : (xs : List Place) (n p : ℕ) → version_at (xs ++ replicate n hole) p ≡ version_at xs p
-version-holes [] n p = elim (get-holes n p) [ inl e ↦ ap version_of e | inr e ↦ ap version_of e ]
+version-holes [] n p = elim (get-holes n p) [ inl e ↦ ap place_version e | inr e ↦ ap place_version e ]
 version-holes (x ∷ xs) n zero = refl
 version-holes (x ∷ xs) n (suc p) = version-holes xs n p
 
@@ -58,7 +58,7 @@ places-holes (x ∷ xs) n h zero = h 0
 places-holes (x ∷ xs) n h (suc p) = places-holes xs n (λ q. h (suc q)) p
 
 pub version_past : (xs : List Place) (p : ℕ) → length xs ≤ p → version_at xs p ≡ 0
-version_past xs p h = ap version_of (slice_get_past xs p h)
+version_past xs p h = ap place_version (slice_get_past xs p h)
 
 pub block_past : (xs : List Place) (p : ℕ) → length xs ≤ p → block_at xs p ≡ zeros
 block_past xs p h = ap block_of (slice_get_past xs p h)
@@ -66,7 +66,7 @@ block_past xs p h = ap block_of (slice_get_past xs p h)
 -- the block of a place has 4,096 bytes
 pub pages_of : (xs : List Place) → ArePlaces xs → ArePages (block_at xs)
 pages_of xs h p = by (slice_get xs p) (h p) where
-  one : (v : ℕ) (page : Option (List ℕ)) → IsPaged v page → length (block_in page) ≡ 4096
+  one : (v : ℕ) (page : Option (List ℕ)) → IsPaged v page → length (page_block page) ≡ 4096
   one v None h = length-zeros
   one v (Some page) h = h.1
 
@@ -77,11 +77,11 @@ pages_of xs h p = by (slice_get xs p) (h p) where
 -- a hole reads as zeros
 pub hole_block : (xs : List Place) (p : ℕ) → ArePlaces xs → version_at xs p ≡ 0 → block_at xs p ≡ zeros
 hole_block xs p h e = by (slice_get xs p) (h p) e where
-  one : (v : ℕ) (page : Option (List ℕ)) → IsPaged v page → v ≡ 0 → block_in page ≡ zeros
+  one : (v : ℕ) (page : Option (List ℕ)) → IsPaged v page → v ≡ 0 → page_block page ≡ zeros
   one v None h e = refl
   one v (Some page) h e = absurd (omega (arith, h.0, e))
 
-  by : (o : Option Place) → IsPlace o → version_of o ≡ 0 → block_of o ≡ zeros
+  by : (o : Option Place) → IsPlace o → place_version o ≡ 0 → block_of o ≡ zeros
   by None h e = refl
   by (Some place) h e = one place.version place.page h e
 
@@ -165,18 +165,18 @@ put_end first version all old left now h e p = let k : first + length left ≡ f
 
 -- a version and a block of a place after freeing
 pub record IsFreedAt (old now : List Place) (p : ℕ) : Type 0 where
-  pub version : version_at now p ≡ cond (nat_lt (filled (version_at old) p) 16) 0 (version_at old p)
-  pub block : block_at now p ≡ cond (nat_lt (filled (version_at old) p) 16) zeros (block_at old p)
+  pub version : version_at now p ≡ cond (nat_lt (count_written (version_at old) p) 16) 0 (version_at old p)
+  pub block : block_at now p ≡ cond (nat_lt (count_written (version_at old) p) 16) zeros (block_at old p)
 
 -- places freed up to a position
 pub record IsFreed (old : List Place) (freed_so_far k : ℕ) (now : List Place) : Type 0 where
-  pub count : freed_so_far ≡ min 16 (filled (version_at old) k)
+  pub count : freed_so_far ≡ min 16 (count_written (version_at old) k)
   pub done : (p : ℕ) → p < k → IsFreedAt old now p
   pub ahead : (p : ℕ) → k ≤ p → slice_get now p ≡ slice_get old p
   pub places : ArePlaces now
 
-filled_more : (v : ℕ → ℕ) (k : ℕ) → filled v (k + 1) ≡ cond (v k == 0) (filled v k) (filled v k + 1)
-filled_more v k = ap (filled v) (one k) where
+filled_more : (v : ℕ → ℕ) (k : ℕ) → count_written v (k + 1) ≡ cond (v k == 0) (count_written v k) (count_written v k + 1)
+filled_more v k = ap (count_written v) (one k) where
   one : (k : ℕ) → k + 1 ≡ suc k
   one k = omega arith
 
@@ -192,29 +192,29 @@ freed_stays old count k now h s = record {
   places = h.places;
 } where
   same : version_at now k ≡ version_at old k
-  same = ap version_of (h.ahead k (omega arith))
+  same = ap place_version (h.ahead k (omega arith))
 
-  counted : (16 ≤ count) ⊎ (version_at now k ≡ 0) → count ≡ min 16 (filled (version_at old) (k + 1))
+  counted : (16 ≤ count) ⊎ (version_at now k ≡ 0) → count ≡ min 16 (count_written (version_at old) (k + 1))
   counted (inl a) = by (version_at old k == 0) (filled_more (version_at old) k) where
-    by : (b : Bool) → filled (version_at old) (k + 1) ≡ cond b (filled (version_at old) k) (filled (version_at old) k + 1) → count ≡ min 16 (filled (version_at old) (k + 1))
+    by : (b : Bool) → count_written (version_at old) (k + 1) ≡ cond b (count_written (version_at old) k) (count_written (version_at old) k + 1) → count ≡ min 16 (count_written (version_at old) (k + 1))
     by true e = omega (arith, h.count, e, a)
     by false e = omega (arith, h.count, e, a)
   counted (inr z) = let e : (version_at old k == 0) ≡ true = (let m = same in grind (arith, nat_tests)) in
-      let f : filled (version_at old) (k + 1) ≡ filled (version_at old) k = filled_more (version_at old) k ∙ ap (λ b. cond b (filled (version_at old) k) (filled (version_at old) k + 1)) e in
+      let f : count_written (version_at old) (k + 1) ≡ count_written (version_at old) k = filled_more (version_at old) k ∙ ap (λ b. cond b (count_written (version_at old) k) (count_written (version_at old) k + 1)) e in
       omega (arith, h.count, f)
 
   at : (p : ℕ) → p ≡ k → (16 ≤ count) ⊎ (version_at now k ≡ 0) → IsFreedAt old now p
-  at p e (inl a) = let t : nat_lt (filled (version_at old) p) 16 ≡ false = (let m : 16 ≤ filled (version_at old) p = (let n = ap (filled (version_at old)) e in omega (arith, h.count, a, n)) in grind (arith, nat_tests)) in record {
-    version = ap version_of (h.ahead p (omega arith)) ∙ sym (ap (λ b. cond b 0 (version_at old p)) t);
+  at p e (inl a) = let t : nat_lt (count_written (version_at old) p) 16 ≡ false = (let m : 16 ≤ count_written (version_at old) p = (let n = ap (count_written (version_at old)) e in omega (arith, h.count, a, n)) in grind (arith, nat_tests)) in record {
+    version = ap place_version (h.ahead p (omega arith)) ∙ sym (ap (λ b. cond b 0 (version_at old p)) t);
     block = ap block_of (h.ahead p (omega arith)) ∙ sym (ap (λ b. cond b zeros (block_at old p)) t);
   }
   at p e (inr z) = let zero_now : version_at now p ≡ 0 = ap (version_at now) e ∙ z in let hollow : block_at now p ≡ zeros = hole_block now p h.places zero_now in record {
-    version = by (nat_lt (filled (version_at old) p) 16) zero_now;
-    block = also (nat_lt (filled (version_at old) p) 16) hollow;
+    version = by (nat_lt (count_written (version_at old) p) 16) zero_now;
+    block = also (nat_lt (count_written (version_at old) p) 16) hollow;
   } where
     by : (b : Bool) → version_at now p ≡ 0 → version_at now p ≡ cond b 0 (version_at old p)
     by true z = z
-    by false z = ap version_of (h.ahead p (omega arith))
+    by false z = ap place_version (h.ahead p (omega arith))
 
     also : (b : Bool) → block_at now p ≡ zeros → block_at now p ≡ cond b zeros (block_at old p)
     also true z = z
@@ -224,22 +224,22 @@ freed_stays old count k now h s = record {
 pub freed_goes : (old : List Place) (count k : ℕ) (now : List Place) → IsFreed old count k now → count < 16 → 0 < version_at now k → k < length now → IsFreed old (count + 1) (k + 1) (set now k hole)
 freed_goes old count k now h c v l = record {
   count = let e : (version_at old k == 0) ≡ false = (let m = same in grind (arith, nat_tests)) in
-      let f : filled (version_at old) (k + 1) ≡ filled (version_at old) k + 1 = filled_more (version_at old) k ∙ ap (λ b. cond b (filled (version_at old) k) (filled (version_at old) k + 1)) e in
+      let f : count_written (version_at old) (k + 1) ≡ count_written (version_at old) k + 1 = filled_more (version_at old) k ∙ ap (λ b. cond b (count_written (version_at old) k) (count_written (version_at old) k + 1)) e in
       omega (arith, h.count, f);
   done = λ p m. elim (less_or p k) [ inl a ↦ before p a | inr b ↦ at p (omega arith) ];
   ahead = λ p m. slice_get-set_other now k p hole (omega arith) ∙ h.ahead p (omega arith);
   places = λ p. placed p (p == k) refl;
 } where
   same : version_at now k ≡ version_at old k
-  same = ap version_of (h.ahead k (omega arith))
+  same = ap place_version (h.ahead k (omega arith))
 
   before : (p : ℕ) → p < k → IsFreedAt old (set now k hole) p
-  before p a = let e = slice_get-set_other now k p hole (omega arith) in let f = h.done p a in record { version = ap version_of e ∙ f.version; block = ap block_of e ∙ f.block }
+  before p a = let e = slice_get-set_other now k p hole (omega arith) in let f = h.done p a in record { version = ap place_version e ∙ f.version; block = ap block_of e ∙ f.block }
 
   at : (p : ℕ) → p ≡ k → IsFreedAt old (set now k hole) p
   at p e = let g : slice_get (set now k hole) p ≡ Some hole = ap (slice_get (set now k hole)) e ∙ slice_get-set_same now k hole l in
-      let t : nat_lt (filled (version_at old) p) 16 ≡ true = (let n = ap (filled (version_at old)) e in let m : filled (version_at old) p < 16 = omega (arith, h.count, c, n) in grind (arith, nat_tests)) in record {
-        version = ap version_of g ∙ sym (ap (λ b. cond b 0 (version_at old p)) t);
+      let t : nat_lt (count_written (version_at old) p) 16 ≡ true = (let n = ap (count_written (version_at old)) e in let m : count_written (version_at old) p < 16 = omega (arith, h.count, c, n) in grind (arith, nat_tests)) in record {
+        version = ap place_version g ∙ sym (ap (λ b. cond b 0 (version_at old p)) t);
         block = ap block_of g ∙ sym (ap (λ b. cond b zeros (block_at old p)) t);
       }
 
@@ -251,17 +251,17 @@ freed_goes old count k now h c v l = record {
 pub freed_end : (old : List Place) (count k : ℕ) (now : List Place) → IsFreed old count k now → length old ≤ k → (p : ℕ) → IsFreedAt old now p
 freed_end old count k now h l p = elim (less_or p k) [ inl a ↦ h.done p a | inr b ↦ past (omega arith) (h.ahead p b) ] where
   past : length old ≤ p → slice_get now p ≡ slice_get old p → IsFreedAt old now p
-  past m e = record { version = by (nat_lt (filled (version_at old) p) 16); block = also (nat_lt (filled (version_at old) p) 16) } where
+  past m e = record { version = by (nat_lt (count_written (version_at old) p) 16); block = also (nat_lt (count_written (version_at old) p) 16) } where
     by : (b : Bool) → version_at now p ≡ cond b 0 (version_at old p)
-    by true = ap version_of e ∙ version_past old p m
-    by false = ap version_of e
+    by true = ap place_version e ∙ version_past old p m
+    by false = ap place_version e
 
     also : (b : Bool) → block_at now p ≡ cond b zeros (block_at old p)
     also true = ap block_of e ∙ block_past old p m
     also false = ap block_of e
 
 pub version_read : (now : List Place) (k : ℕ) (x : Place) → k < length now → version_at now k ≡ (get_or now k x).version
-version_read now k x l = ap version_of (slice_get-get_or now k x l)
+version_read now k x l = ap place_version (slice_get-get_or now k x l)
 
 -- the same by what a step of the loop says
 pub goes : (old : List Place) (count k : ℕ) (now : List Place) (x : Place) (after : List Place) (count' : ℕ) (h : Place) → IsFreed old count k now → count < 16 → 0 < (get_or now k x).version → k < length now
@@ -276,24 +276,24 @@ stays old count k now after count' f s a d = let P : List Place → Type 0 = λ 
     subst P (sym a) (subst Q (sym d) (freed_stays old count k now f s))
 
 -- a file has no place but holes where each place is one
-filled_front : (v : ℕ → ℕ) (n : ℕ) → filled v (suc n) ≡ cond (v 0 == 0) 0 1 + filled (λ p. v (suc p)) n
+filled_front : (v : ℕ → ℕ) (n : ℕ) → count_written v (suc n) ≡ cond (v 0 == 0) 0 1 + count_written (λ p. v (suc p)) n
 filled_front v zero = by (v 0 == 0) where
   by : (b : Bool) → cond b 0 1 ≡ cond b 0 1 + 0
   by true = refl
   by false = refl
 filled_front v (suc n) = by (v (suc n) == 0) (filled_front v n) where
-  by : (b : Bool) → filled v (suc n) ≡ cond (v 0 == 0) 0 1 + filled (λ p. v (suc p)) n
-      → cond b (filled v (suc n)) (filled v (suc n) + 1) ≡ cond (v 0 == 0) 0 1 + cond b (filled (λ p. v (suc p)) n) (filled (λ p. v (suc p)) n + 1)
+  by : (b : Bool) → count_written v (suc n) ≡ cond (v 0 == 0) 0 1 + count_written (λ p. v (suc p)) n
+      → cond b (count_written v (suc n)) (count_written v (suc n) + 1) ≡ cond (v 0 == 0) 0 1 + cond b (count_written (λ p. v (suc p)) n) (count_written (λ p. v (suc p)) n + 1)
   by true e = e
   by false e = omega (arith, e)
 
-pub are_holes : (xs : List Place) → list_all (λ (place : Place). place.version == 0) xs ≡ (filled (version_at xs) (length xs) == 0)
+pub are_holes : (xs : List Place) → list_all (λ (place : Place). place.version == 0) xs ≡ (count_written (version_at xs) (length xs) == 0)
 are_holes [] = refl
 are_holes (x ∷ xs) = by (x.version == 0) (are_holes xs) (filled_front (version_at (x ∷ xs)) (length xs)) where
-  by : (b : Bool) → list_all (λ (place : Place). place.version == 0) xs ≡ (filled (version_at xs) (length xs) == 0)
-      → filled (version_at (x ∷ xs)) (suc (length xs)) ≡ cond b 0 1 + filled (version_at xs) (length xs)
-      → b && list_all (λ (place : Place). place.version == 0) xs ≡ (filled (version_at (x ∷ xs)) (suc (length xs)) == 0)
-  by true ih e = ih ∙ ap (λ n. n == 0) (zero_add (filled (version_at xs) (length xs))) ∙ ap (λ n. n == 0) (sym e) where
+  by : (b : Bool) → list_all (λ (place : Place). place.version == 0) xs ≡ (count_written (version_at xs) (length xs) == 0)
+      → count_written (version_at (x ∷ xs)) (suc (length xs)) ≡ cond b 0 1 + count_written (version_at xs) (length xs)
+      → b && list_all (λ (place : Place). place.version == 0) xs ≡ (count_written (version_at (x ∷ xs)) (suc (length xs)) == 0)
+  by true ih e = ih ∙ ap (λ n. n == 0) (zero_add (count_written (version_at xs) (length xs))) ∙ ap (λ n. n == 0) (sym e) where
     zero_add : (n : ℕ) → n ≡ 0 + n
     zero_add n = omega arith
-  by false ih e = let k : filled (version_at (x ∷ xs)) (suc (length xs)) ≢ 0 = omega (arith, e) in grind (arith, nat_tests)
+  by false ih e = let k : count_written (version_at (x ∷ xs)) (suc (length xs)) ≢ 0 = omega (arith, e) in grind (arith, nat_tests)

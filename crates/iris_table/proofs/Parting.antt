@@ -6,9 +6,9 @@ use Rattle.iris_name.specs.Names.{same_name}
 use Rattle.iris_name.specs.declared.name.FileId.{FileId}
 use Rattle.iris_name.specs.declared.name.Name.{Name}
 use Rattle.iris_name.specs.declared.name.Name.TheVariants.{Entry, Part, Block}
-use Rattle.iris_node.specs.Rules.{IsFold, Differ}
+use Rattle.iris_node.specs.Rules.{IsFold, AreUnequalSides}
 use Rattle.iris_node.specs.Spelling.{spelling}
-use Rattle.iris_node.specs.Unfolded.{Unfolded, Split, Even, hash, side_to, node_of, spelled as node_spelled}
+use Rattle.iris_node.specs.Unfolded.{Unfolded, Split, Even, hash, side_to, node_of, spelled_node as node_spelled}
 use Rattle.iris_node.specs.declared.node.Node.{Node}
 use Rattle.iris_node.specs.declared.node.Node.TheVariants.{Part as Part-node}
 use Rattle.iris_node.specs.declared.node.Side.{Side}
@@ -21,9 +21,9 @@ use Rattle.std.proofs.Math.Nat.{pow-suc}
 use Rattle.iris_table.specs.Unmade.{unmade_fold}
 use Rattle.iris_table.proofs.Unmaking.{unmade_two}
 use Rattle.iris_table.specs.Records.{Records, looked, spelled}
-use Rattle.iris_shape.specs.Sides.{side}
+use Rattle.iris_shape.specs.Sides.{unfolded_side}
 use Rattle.iris_table.specs.Shown.{part_in, in_parts}
-use Rattle.iris_table.specs.Pieces.{Adds, IsHalved, AreApart}
+use Rattle.iris_table.specs.Pieces.{Adds, IsHalved, AreUnequalFolds}
 
 pub either_assoc : {A : Type 0} → (a b c : Option A) → either a (either b c) ≡ either (either a b) c
 either_assoc None b c = refl
@@ -76,12 +76,12 @@ part_put key file level index low high node a b c d h l p e =
     (adds_twice key _ (λ n. cond (same_name n (Part file level index)) (Some (Split file.0 level index low high)) None) a c d (adds_twice key (λ n. in_parts n file.0 high) (λ n. in_parts n file.0 low) a b c h l) one)
 
 -- the sides of a part keep its rules
-pub places_fold : (file level index : ℕ) (f : Fold) → level ≡ 0 → IsHalved level f → IsFold (side_to (side file level index f) (node_of (side file level index f)))
+pub places_fold : (file level index : ℕ) (f : Fold) → level ≡ 0 → IsHalved level f → IsFold (side_to (unfolded_side file level index f) (node_of (unfolded_side file level index f)))
 places_fold file level index (One v) e h = tt
 places_fold file level index (Two x y) e h = absurd (let k = h.0 in omega (arith, e, k))
 
-pub sides_differ : (file level i j : ℕ) (x y : Fold) → AreApart x y
-    → Differ (side_to (side file level i x) (node_of (side file level i x))) (side_to (side file level j y) (node_of (side file level j y)))
+pub sides_differ : (file level i j : ℕ) (x y : Fold) → AreUnequalFolds x y
+    → AreUnequalSides (side_to (unfolded_side file level i x) (node_of (unfolded_side file level i x))) (side_to (unfolded_side file level j y) (node_of (unfolded_side file level j y)))
 unfolding node_of
 sides_differ file level i j (One v) (One w) h = h
 sides_differ file level i j (One v) (Two x y) h = tt
@@ -90,7 +90,7 @@ sides_differ file level i j (Two x y) z h = tt
 pub fold_two : (x a b c d : Folded) → x ≡ folded.Two a b → c ≡ a → d ≡ b → unmade_fold x ≡ Two (unmade_fold c) (unmade_fold d)
 fold_two x a b c d e f g = ap unmade_fold e ∙ unmade_two a b ∙ ap (λ z. Two (unmade_fold z) (unmade_fold b)) (sym f) ∙ ap (λ z. Two (unmade_fold c) (unmade_fold z)) (sym g)
 
-pub halved_two : (level : ℕ) (x : Folded) (a b c d : Folded) → x ≡ folded.Two a b → c ≡ a → d ≡ b → IsHalved level (unmade_fold x) → (1 ≤ level) × AreApart (unmade_fold c) (unmade_fold d) × IsHalved (level - 1) (unmade_fold c) × IsHalved (level - 1) (unmade_fold d)
+pub halved_two : (level : ℕ) (x : Folded) (a b c d : Folded) → x ≡ folded.Two a b → c ≡ a → d ≡ b → IsHalved level (unmade_fold x) → (1 ≤ level) × AreUnequalFolds (unmade_fold c) (unmade_fold d) × IsHalved (level - 1) (unmade_fold c) × IsHalved (level - 1) (unmade_fold d)
 halved_two level x a b c d e f g h =
     let k : unmade_fold x ≡ Two (unmade_fold c) (unmade_fold d) = fold_two x a b c d e f g in subst (IsHalved level) k h
 
@@ -99,8 +99,8 @@ half_index level index h k l =
     let e : 16 - (level - 1) ≡ suc (16 - level) = omega (arith, h, k) in
     let p : 2 ^ (16 - (level - 1)) ≡ 2 ^ (16 - level) * 2 = ap (λ z. 2 ^ z) e ∙ pow-suc 2 (16 - level) in omega (arith, l, p)
 
-pub one_side : (file level index v : ℕ) (x : Fold) → x ≡ One v → Fold-side v ≡ side_to (side file level index x) (node_of (side file level index x))
-one_side file level index v x e = subst (λ f. Fold-side v ≡ side_to (side file level index f) (node_of (side file level index f))) (sym e) refl
+pub one_side : (file level index v : ℕ) (x : Fold) → x ≡ One v → Fold-side v ≡ side_to (unfolded_side file level index x) (node_of (unfolded_side file level index x))
+one_side file level index v x e = subst (λ f. Fold-side v ≡ side_to (unfolded_side file level index f) (node_of (unfolded_side file level index f))) (sym e) refl
 
 no_parts : (n : Name) (file v : ℕ) → in_parts n file (Even v) ≡ None
 no_parts (Entry i) file v = refl
@@ -110,36 +110,36 @@ no_parts (Part g l i) file v = by (g.0 == file) where
   by true = refl
   by false = refl
 
-pub one_puts : (key : List ℕ) (file level index v : ℕ) (x : Fold) (s : Records) → x ≡ One v → Adds key (λ n. in_parts n file (side file level index x)) s s
-one_puts key file level index v x s e = λ n. subst (λ f. looked n s ≡ either (option_map (spelled key n) (in_parts n file (side file level index f))) (looked n s)) (sym e)
+pub one_puts : (key : List ℕ) (file level index v : ℕ) (x : Fold) (s : Records) → x ≡ One v → Adds key (λ n. in_parts n file (unfolded_side file level index x)) s s
+one_puts key file level index v x s e = λ n. subst (λ f. looked n s ≡ either (option_map (spelled key n) (in_parts n file (unfolded_side file level index f))) (looked n s)) (sym e)
     (ap (λ z. either (option_map (spelled key n) z) (looked n s)) (sym (no_parts n file v)))
 
 -- the node of a part with two sides
 abbrev pub part_node : FileId → ℕ → ℕ → Side → Side → Node
 part_node file level index low high = Part-node (record { file = file; level = level; index = index; low = low; high = high })
 
-pub two_node : (file : FileId) (level index : ℕ) (lo hi : Fold) (l h : Side) → l ≡ side_to (side file.0 (level - 1) (2 * index) lo) (node_of (side file.0 (level - 1) (2 * index) lo))
-    → h ≡ side_to (side file.0 (level - 1) (2 * index + 1) hi) (node_of (side file.0 (level - 1) (2 * index + 1) hi)) → node_of (side file.0 level index (Two lo hi)) ≡ Some (part_node file level index l h)
+pub two_node : (file : FileId) (level index : ℕ) (lo hi : Fold) (l h : Side) → l ≡ side_to (unfolded_side file.0 (level - 1) (2 * index) lo) (node_of (unfolded_side file.0 (level - 1) (2 * index) lo))
+    → h ≡ side_to (unfolded_side file.0 (level - 1) (2 * index + 1) hi) (node_of (unfolded_side file.0 (level - 1) (2 * index + 1) hi)) → node_of (unfolded_side file.0 level index (Two lo hi)) ≡ Some (part_node file level index l h)
 unfolding node_of
 two_node file level index lo hi l h e f =
-    sym (ap (λ z. Some (part_node file level index z h)) e ∙ ap (λ z. Some (part_node file level index (side_to (side file.0 (level - 1) (2 * index) lo) (node_of (side file.0 (level - 1) (2 * index) lo))) z)) f)
+    sym (ap (λ z. Some (part_node file level index z h)) e ∙ ap (λ z. Some (part_node file level index (side_to (unfolded_side file.0 (level - 1) (2 * index) lo) (node_of (unfolded_side file.0 (level - 1) (2 * index) lo))) z)) f)
 
-pub two_side : (file : FileId) (level index : ℕ) (x lo hi : Fold) (node : Node) → x ≡ Two lo hi → node_of (side file.0 level index (Two lo hi)) ≡ Some node
-    → Below-side (hash node) ≡ side_to (side file.0 level index x) (node_of (side file.0 level index x))
+pub two_side : (file : FileId) (level index : ℕ) (x lo hi : Fold) (node : Node) → x ≡ Two lo hi → node_of (unfolded_side file.0 level index (Two lo hi)) ≡ Some node
+    → Below-side (hash node) ≡ side_to (unfolded_side file.0 level index x) (node_of (unfolded_side file.0 level index x))
 two_side file level index x lo hi node e f =
-    subst (λ z. Below-side (hash node) ≡ side_to (side file.0 level index z) (node_of (side file.0 level index z))) (sym e) (ap (side_to (side file.0 level index (Two lo hi))) (sym f))
+    subst (λ z. Below-side (hash node) ≡ side_to (unfolded_side file.0 level index z) (node_of (unfolded_side file.0 level index z))) (sym e) (ap (side_to (unfolded_side file.0 level index (Two lo hi))) (sym f))
 
 pub two_puts : (key : List ℕ) (file : FileId) (level index : ℕ) (x lo hi : Fold) (node : Node) (a b c d : Records) → x ≡ Two lo hi
-    → Adds key (λ n. in_parts n file.0 (side file.0 (level - 1) (2 * index + 1) hi)) a b → Adds key (λ n. in_parts n file.0 (side file.0 (level - 1) (2 * index) lo)) b c
+    → Adds key (λ n. in_parts n file.0 (unfolded_side file.0 (level - 1) (2 * index + 1) hi)) a b → Adds key (λ n. in_parts n file.0 (unfolded_side file.0 (level - 1) (2 * index) lo)) b c
     → ((n : Name) → looked n d ≡ cond (same_name n (Part file level index)) (Some (spelling node)) (looked n c))
-    → node_of (side file.0 level index (Two lo hi)) ≡ Some node → Adds key (λ n. in_parts n file.0 (side file.0 level index x)) a d
+    → node_of (unfolded_side file.0 level index (Two lo hi)) ≡ Some node → Adds key (λ n. in_parts n file.0 (unfolded_side file.0 level index x)) a d
 two_puts key file level index x lo hi node a b c d e h l p f =
-    subst (λ z. Adds key (λ n. in_parts n file.0 (side file.0 level index z)) a d) (sym e)
-    (part_put key file level index (side file.0 (level - 1) (2 * index) lo) (side file.0 (level - 1) (2 * index + 1) hi) node a b c d h l p f)
+    subst (λ z. Adds key (λ n. in_parts n file.0 (unfolded_side file.0 level index z)) a d) (sym e)
+    (part_put key file level index (unfolded_side file.0 (level - 1) (2 * index) lo) (unfolded_side file.0 (level - 1) (2 * index + 1) hi) node a b c d h l p f)
 
-pub sides_split : (file level i j : ℕ) (x y : Fold) (l h : Side) → l ≡ side_to (side file level i x) (node_of (side file level i x)) → h ≡ side_to (side file level j y) (node_of (side file level j y)) → AreApart x y → Differ l h
+pub sides_split : (file level i j : ℕ) (x y : Fold) (l h : Side) → l ≡ side_to (unfolded_side file level i x) (node_of (unfolded_side file level i x)) → h ≡ side_to (unfolded_side file level j y) (node_of (unfolded_side file level j y)) → AreUnequalFolds x y → AreUnequalSides l h
 sides_split file level i j x y l h e f a =
-    subst (λ z. Differ z h) (sym e) (subst (λ z. Differ (side_to (side file level i x) (node_of (side file level i x))) z) (sym f) (sides_differ file level i j x y a))
+    subst (λ z. AreUnequalSides z h) (sym e) (subst (λ z. AreUnequalSides (side_to (unfolded_side file level i x) (node_of (unfolded_side file level i x))) z) (sym f) (sides_differ file level i j x y a))
 
-pub side_folds : (file level i : ℕ) (x : Fold) (l : Side) → l ≡ side_to (side file level i x) (node_of (side file level i x)) → level ≡ 0 → IsHalved level x → IsFold l
+pub side_folds : (file level i : ℕ) (x : Fold) (l : Side) → l ≡ side_to (unfolded_side file level i x) (node_of (unfolded_side file level i x)) → level ≡ 0 → IsHalved level x → IsFold l
 side_folds file level i x l e z h = subst IsFold (sym e) (places_fold file level i x z h)

@@ -2,10 +2,10 @@
 use Rattle.std.proofs.Common.{◌≡◌, ◌≢◌, inl, inr, ℕ, suc, ◌+◌, ◌<◌, ◌≤◌, List, [], ◌∷◌, ◌++◌, take, drop, map, Bool, true, false, cond, refl, sym, ◌∙◌, ap, subst, arith}
 use Rattle.std.proofs.lemmas.List.{take-append-drop}
 use Rattle.std.specs.Str.{bytes_eq}
-use Rattle.iris_plain.specs.Routes.{before}
+use Rattle.iris_plain.specs.Routes.{is_name_before}
 use Rattle.iris_table.specs.declared.item.Item.{Item}
 use Rattle.iris_table.specs.Items.{grown, kept_file}
-use Rattle.iris_table.specs.Rows.{File, End, Row, Taken, put, without, on_file, file_at}
+use Rattle.iris_table.specs.Rows.{File, End, Row, Taken, with_row, without_row, on_file, file_at}
 use Rattle.iris_table.specs.Stops.{deeper, room, relabelled, AreDeeper, IsFiled}
 use Rattle.iris_table.proofs.Changing.{lt_true, lt_false, compared, row_of, grown_higher, grown_deeper, grown_here, IsChange, change_deeper, change_beside}
 
@@ -67,10 +67,10 @@ pub run_rows : (d e : ℕ) (xs : List Item) → d < e → grown e (take (deeper 
 run_rows d e xs h = sym (before_higher d (take (deeper d xs) xs) (drop (deeper d xs) xs) (λ f l. run_ends d f xs l) e h) ∙ ap (grown e) (take-append-drop (deeper d xs) xs)
 
 -- out of the directory
-pub taken_out : (d : ℕ) (n : List ℕ) (i : Item) (xs : List Item) → i.depth ≡ d → bytes_eq n i.name ≡ true → IsChange d (without n) (i ∷ xs) (drop (deeper d xs) xs)
+pub taken_out : (d : ℕ) (n : List ℕ) (i : Item) (xs : List Item) → i.depth ≡ d → bytes_eq n i.name ≡ true → IsChange d (without_row n) (i ∷ xs) (drop (deeper d xs) xs)
 unfolding row_of
 taken_out d n i xs h b = record {
-  rows = run_skipped d d xs (omega arith) ∙ (let x : without n (row_of i (grown (d + 1) xs) (grown d xs)) ≡ grown d xs = rw b refl in sym x) ∙ ap (without n) (sym (grown_here d i xs h));
+  rows = run_skipped d d xs (omega arith) ∙ (let x : without_row n (row_of i (grown (d + 1) xs) (grown d xs)) ≡ grown d xs = rw b refl in sym x) ∙ ap (without_row n) (sym (grown_here d i xs h));
   others = λ e ne. elim (compared e d) [
     | inl l ↦ run_skipped d e xs (omega arith) ∙ sym (grown_deeper e i xs (omega arith))
     | inr r ↦ run_ends d e xs (elim r [ inl l ↦ l | inr s ↦ absurd (ne s) ]) ∙ sym (grown_higher e i xs (elim r [ inl l ↦ omega arith | inr s ↦ absurd (ne s) ]))
@@ -92,28 +92,28 @@ module _ (d : ℕ) (r : Item) (rs : List Item) (here : r.depth ≡ d) (deep : Ar
     | inr s ↦ grown_higher e r (rs ++ xs) (elim s [ inl l ↦ omega arith | inr t ↦ absurd (ne t) ]) ∙ sym (low e (elim s [ inl l ↦ l | inr t ↦ absurd (ne t) ]))
   ]
 
-  first_put : (xs : List Item) → ((e : ℕ) → d < e → grown e xs ≡ End) → put r.name (taken_of r rs) (grown d xs) ≡ row_of r (grown (r.depth + 1) rs) (grown d xs) → IsChange d (put r.name (taken_of r rs)) xs ((r ∷ rs) ++ xs)
+  first_put : (xs : List Item) → ((e : ℕ) → d < e → grown e xs ≡ End) → with_row r.name (taken_of r rs) (grown d xs) ≡ row_of r (grown (r.depth + 1) rs) (grown d xs) → IsChange d (with_row r.name (taken_of r rs)) xs ((r ∷ rs) ++ xs)
   first_put xs low e = record { rows = in_front xs low ∙ sym e; others = in_front_others xs low }
 
   abbrev with_run : List Item → ℕ → List Item
   with_run xs k = take k xs ++ ((r ∷ rs) ++ drop k xs)
 
-  pub put_in : (xs : List Item) → IsChange d (put r.name (taken_of r rs)) xs (with_run xs (room d r.name xs))
+  pub put_in : (xs : List Item) → IsChange d (with_row r.name (taken_of r rs)) xs (with_run xs (room d r.name xs))
   unfolding row_of
   put_in [] = first_put [] (λ e h. refl) refl
   put_in (x ∷ xs) = elim (compared x.depth d) [
-    | inl l ↦ let k : room d r.name (x ∷ xs) ≡ 0 = rw (lt_true x.depth d l) refl in let Q : ℕ → Type 0 = λ k. IsChange d (put r.name (taken_of r rs)) (x ∷ xs) (with_run (x ∷ xs) k) in
-        subst Q (sym k) (first_put (x ∷ xs) (λ e h. grown_higher e x xs (omega arith)) (ap (put r.name (taken_of r rs)) (grown_higher d x xs l) ∙ ap (row_of r (grown (r.depth + 1) rs)) (sym (grown_higher d x xs l))))
+    | inl l ↦ let k : room d r.name (x ∷ xs) ≡ 0 = rw (lt_true x.depth d l) refl in let Q : ℕ → Type 0 = λ k. IsChange d (with_row r.name (taken_of r rs)) (x ∷ xs) (with_run (x ∷ xs) k) in
+        subst Q (sym k) (first_put (x ∷ xs) (λ e h. grown_higher e x xs (omega arith)) (ap (with_row r.name (taken_of r rs)) (grown_higher d x xs l) ∙ ap (row_of r (grown (r.depth + 1) rs)) (sym (grown_higher d x xs l))))
     | inr s ↦ elim s [
-      | inl l ↦ let k : room d r.name (x ∷ xs) ≡ suc (room d r.name xs) = rw (lt_false x.depth d (omega arith), lt_true d x.depth l) refl in let Q : ℕ → Type 0 = λ k. IsChange d (put r.name (taken_of r rs)) (x ∷ xs) (with_run (x ∷ xs) k) in
-          subst Q (sym k) (change_deeper d (put r.name (taken_of r rs)) x xs _ l (put_in xs))
-      | inr t ↦ let k : room d r.name (x ∷ xs) ≡ cond (before r.name x.name) 0 (suc (room d r.name xs)) = rw (lt_false x.depth d (omega arith), lt_false d x.depth (omega arith)) refl in let Q : ℕ → Type 0 = λ k. IsChange d (put r.name (taken_of r rs)) (x ∷ xs) (with_run (x ∷ xs) k) in
-          subst Q (sym k) (at_depth (before r.name x.name) x xs refl t (put_in xs))
+      | inl l ↦ let k : room d r.name (x ∷ xs) ≡ suc (room d r.name xs) = rw (lt_false x.depth d (omega arith), lt_true d x.depth l) refl in let Q : ℕ → Type 0 = λ k. IsChange d (with_row r.name (taken_of r rs)) (x ∷ xs) (with_run (x ∷ xs) k) in
+          subst Q (sym k) (change_deeper d (with_row r.name (taken_of r rs)) x xs _ l (put_in xs))
+      | inr t ↦ let k : room d r.name (x ∷ xs) ≡ cond (is_name_before r.name x.name) 0 (suc (room d r.name xs)) = rw (lt_false x.depth d (omega arith), lt_false d x.depth (omega arith)) refl in let Q : ℕ → Type 0 = λ k. IsChange d (with_row r.name (taken_of r rs)) (x ∷ xs) (with_run (x ∷ xs) k) in
+          subst Q (sym k) (at_depth (is_name_before r.name x.name) x xs refl t (put_in xs))
     ]
   ] where
-    at_depth : (b : Bool) → (x : Item) (xs : List Item) → before r.name x.name ≡ b → x.depth ≡ d → IsChange d (put r.name (taken_of r rs)) xs (with_run xs (room d r.name xs)) → IsChange d (put r.name (taken_of r rs)) (x ∷ xs) (with_run (x ∷ xs) (cond b 0 (suc (room d r.name xs))))
-    at_depth true x xs e t c = first_put (x ∷ xs) (λ e h. grown_higher e x xs (omega arith)) (ap (put r.name (taken_of r rs)) (grown_here d x xs t) ∙ (let y : put r.name (taken_of r rs) (row_of x (grown (d + 1) xs) (grown d xs)) ≡ row_of r (grown (r.depth + 1) rs) (row_of x (grown (d + 1) xs) (grown d xs)) = rw e refl in y) ∙ ap (row_of r (grown (r.depth + 1) rs)) (sym (grown_here d x xs t)))
-    at_depth false x xs e t c = change_beside d (put r.name (taken_of r rs)) x xs _ t (rw e refl) c
+    at_depth : (b : Bool) → (x : Item) (xs : List Item) → is_name_before r.name x.name ≡ b → x.depth ≡ d → IsChange d (with_row r.name (taken_of r rs)) xs (with_run xs (room d r.name xs)) → IsChange d (with_row r.name (taken_of r rs)) (x ∷ xs) (with_run (x ∷ xs) (cond b 0 (suc (room d r.name xs))))
+    at_depth true x xs e t c = first_put (x ∷ xs) (λ e h. grown_higher e x xs (omega arith)) (ap (with_row r.name (taken_of r rs)) (grown_here d x xs t) ∙ (let y : with_row r.name (taken_of r rs) (row_of x (grown (d + 1) xs) (grown d xs)) ≡ row_of r (grown (r.depth + 1) rs) (row_of x (grown (d + 1) xs) (grown d xs)) = rw e refl in y) ∙ ap (row_of r (grown (r.depth + 1) rs)) (sym (grown_here d x xs t)))
+    at_depth false x xs e t c = change_beside d (with_row r.name (taken_of r rs)) x xs _ t (rw e refl) c
 
 -- an item's file changed
 pub filed : (d : ℕ) (n : List ℕ) (change : File → File) (i j : Item) (xs : List Item) → i.depth ≡ d → bytes_eq n i.name ≡ true → IsFiled change i j → IsChange d (file_at n change) (i ∷ xs) (j ∷ xs)

@@ -5,21 +5,21 @@ use Rattle.std.proofs.lemmas.Bool.Decides.{nat_tests}
 use Rattle.std.proofs.Math.ListN.{set}
 use Rattle.std.specs.Prelude.{nat_lt, is_some, OnOk, IfOk, Result, Ok, Err}
 use Rattle.std.specs.Str.{bytes_eq}
-use Rattle.iris_plain.specs.Checks.{is_dir, is_file, is_there}
+use Rattle.iris_plain.specs.Checks.{is_directory_seen, is_file, is_there}
 use Rattle.iris_plain.specs.declared.checks.Seen.{Seen}
 use Rattle.iris_plain.specs.declared.checks.Seen.TheVariants.{ADirectory, AFile, Nothing, AFileBefore}
-use Rattle.iris_plain.specs.Routes.{parent, last, under, is_front}
+use Rattle.iris_plain.specs.Routes.{parent, last, is_at_or_under, is_front}
 use Rattle.iris_plain.specs.declared.files.Kind.{Kind}
 use Rattle.iris_plain.specs.declared.files.Kind.TheVariants.{Dir}
 use Rattle.iris_table.specs.declared.item.Item.{Item}
 use Rattle.iris_table.specs.declared.rows.Stop.{Stop}
 use Rattle.iris_table.specs.declared.rows.Stop.TheVariants.{Standing, Absent, Barred}
-use Rattle.iris_table.specs.Changes.{seen_row, seen_file, gone, thrown, removed, moved, emptied, trash_name, reclaimed, retrashed, freed}
+use Rattle.iris_table.specs.Changes.{seen_row, seen_file, gone, thrown, removed, row_moved, emptied, trash_name, reclaimed, retrashed, freed}
 use Rattle.iris_table.specs.Places.{Kept, file_of}
 use Rattle.iris_table.specs.Items.{grown, kept_file, IsForest, IsForestTo, most_depth}
-use Rattle.iris_table.specs.Rows.{File, Rows, End, Row, Table, Taken, Found, Here, Missing, Through, put, without, at, file_at, empty_file, on_file}
+use Rattle.iris_table.specs.Rows.{File, Rows, End, Row, Table, Taken, Found, Here, Missing, Through, with_row, without_row, at, file_at, empty_file, on_file}
 use Rattle.iris_table.specs.Sound.{IsDistinct}
-use Rattle.iris_table.specs.View.{look, kind}
+use Rattle.iris_table.specs.View.{kind_below, kind_of}
 use Rattle.iris_table.specs.Stops.{stop, file_met, met_in, root_of, run_row, after_run, table_over, IsFiled, IsFreed, IsGivenUp, is_given_up, IsRun, first_name, has_child, deeper}
 use Rattle.iris_table.proofs.Agree.{kind_of, look_resolved}
 use Rattle.iris_table.proofs.Looks.{without_at}
@@ -43,14 +43,14 @@ met_here items names place h e = met_stop items names h ∙ ap (found items) (sy
 
 -- the rows without that of a path
 pub rows_gone : (items : List Item) (names : List (List ℕ)) (place : ℕ) → 0 < length names → Standing place ≡ stop 0 names items
-    → grown 0 (take place items ++ after_run (drop place items)) ≡ at (parent names) (without (last names)) (grown 0 items)
+    → grown 0 (take place items ++ after_run (drop place items)) ≡ at (parent names) (without_row (last names)) (grown 0 items)
 rows_gone items [] place h e = absurd (omega arith)
 rows_gone items (n ∷ ns) place h e =
     let s = is_standing 0 n ns items place (sym e) in
-    let P : List Item → Type 0 = λ z. IsChange (0 + length ns) (without (last (n ∷ ns))) z (after_run z) in
-    let Q : ℕ → Type 0 = λ d. IsChange d (without (last (n ∷ ns))) (s.item ∷ s.others) (after_run (s.item ∷ s.others)) in
-    let c : IsChange (0 + length ns) (without (last (n ∷ ns))) (s.item ∷ s.others) (after_run (s.item ∷ s.others)) = subst Q s.depth (taken_out s.item.depth (last (n ∷ ns)) s.item s.others refl s.name) in
-    (reaches without by_without 0 n ns items place (sym e) (0 + length ns) (after_run (drop place items)) refl (subst P (sym s.is) c)).rows
+    let P : List Item → Type 0 = λ z. IsChange (0 + length ns) (without_row (last (n ∷ ns))) z (after_run z) in
+    let Q : ℕ → Type 0 = λ d. IsChange d (without_row (last (n ∷ ns))) (s.item ∷ s.others) (after_run (s.item ∷ s.others)) in
+    let c : IsChange (0 + length ns) (without_row (last (n ∷ ns))) (s.item ∷ s.others) (after_run (s.item ∷ s.others)) = subst Q s.depth (taken_out s.item.depth (last (n ∷ ns)) s.item s.others refl s.name) in
+    (reaches without_row by_without 0 n ns items place (sym e) (0 + length ns) (after_run (drop place items)) refl (subst P (sym s.is) c)).rows
 
 -- the rows with the file at a path changed
 pub rows_filed : (items : List Item) (names : List (List ℕ)) (place : ℕ) (change : File → File) (i j : Item) → 0 < length names → Standing place ≡ stop 0 names items → i ≡ get_or items place i → IsFiled change i j
@@ -67,38 +67,38 @@ rows_filed items (n ∷ ns) place change i j h e g f new x =
     (subst P (sym here) (filed (0 + length ns) (last (n ∷ ns)) change i j (drop (place + 1) items) depth name f))).rows
 
 -- a directory that is there
-dir_kind : (f : Found) → is_dir (seen_row f) ≡ true → kind_of f ≡ Some Dir
+dir_kind : (f : Found) → is_directory_seen (seen_row f) ≡ true → kind_of f ≡ Some Dir
 dir_kind (Here row) e = by row.file e where
-  by : (file : Option File) → is_dir (seen_file file) ≡ true → Some (kind file) ≡ Some Dir
+  by : (file : Option File) → is_directory_seen (seen_file file) ≡ true → Some (kind_of file) ≡ Some Dir
   by None e = refl
   by (Some f) e = absurd (cc)
 dir_kind Missing e = absurd (cc)
 dir_kind Through e = absurd (cc)
 
-kind_dir : (f : Found) → kind_of f ≡ Some Dir → is_dir (seen_row f) ≡ true
+kind_dir : (f : Found) → kind_of f ≡ Some Dir → is_directory_seen (seen_row f) ≡ true
 kind_dir (Here row) e = by row.file e where
-  by : (file : Option File) → Some (kind file) ≡ Some Dir → is_dir (seen_file file) ≡ true
+  by : (file : Option File) → Some (kind_of file) ≡ Some Dir → is_directory_seen (seen_file file) ≡ true
   by None e = refl
   by (Some f) e = absurd (cc)
 kind_dir Missing e = absurd (cc)
 kind_dir Through e = absurd (cc)
 
 -- a directory stays when a row that it doesn't lie below is taken out
-pub dir_stays : (items new : List Item) (names q : List (List ℕ)) → 0 < length names → IsDistinct (grown 0 items) → grown 0 new ≡ at (parent names) (without (last names)) (grown 0 items)
-    → under names q ≡ false → is_dir (seen_row (met_in items q)) ≡ true → is_dir (seen_row (met_in new q)) ≡ true
+pub dir_stays : (items new : List Item) (names q : List (List ℕ)) → 0 < length names → IsDistinct (grown 0 items) → grown 0 new ≡ at (parent names) (without_row (last names)) (grown 0 items)
+    → is_at_or_under names q ≡ false → is_directory_seen (seen_row (met_in items q)) ≡ true → is_directory_seen (seen_row (met_in new q)) ≡ true
 dir_stays items new [] q h d e u x = absurd (omega arith)
 dir_stays items new (n ∷ ns) q h d e u x =
-    let before : look q (root_of items) ≡ Some Dir = look_resolved q (root_of items) ∙ dir_kind (met_in items q) x in
-    let after : look q (root_of new) ≡ Some Dir = ap (λ rows. look q (record { id = 0; file = None; inside = rows })) e ∙ without_at n ns (root_of items) q d ∙ ap (λ b. cond b None (look q (root_of items))) u ∙ before in
+    let before : kind_below q (root_of items) ≡ Some Dir = look_resolved q (root_of items) ∙ dir_kind (met_in items q) x in
+    let after : kind_below q (root_of new) ≡ Some Dir = ap (λ rows. kind_below q (record { id = 0; file = None; inside = rows })) e ∙ without_at n ns (root_of items) q d ∙ ap (λ b. cond b None (kind_below q (root_of items))) u ∙ before in
     kind_dir (met_in new q) (sym (look_resolved q (root_of new)) ∙ after)
 
 -- what doesn't lie below a path has a directory that doesn't either
-pub front_parent : (p q : List (List ℕ)) → 0 < length q → is_front p q ≡ false → under p (parent q) ≡ false
+pub front_parent : (p q : List (List ℕ)) → 0 < length q → is_front p q ≡ false → is_at_or_under p (parent q) ≡ false
 front_parent p [] h e = absurd (omega arith)
 front_parent [] (m ∷ q) h e = absurd (cc)
 front_parent (n ∷ p) (m ∷ []) h e = refl
 front_parent (n ∷ p) (m ∷ k ∷ q) h e = by (bytes_eq m n) (front_parent p (k ∷ q) (omega arith)) e where
-  by : (b : Bool) → (is_front p (k ∷ q) ≡ false → under p (parent (k ∷ q)) ≡ false) → b && is_front p (k ∷ q) ≡ false → b && under p (parent (k ∷ q)) ≡ false
+  by : (b : Bool) → (is_front p (k ∷ q) ≡ false → is_at_or_under p (parent (k ∷ q)) ≡ false) → b && is_front p (k ∷ q) ≡ false → b && is_at_or_under p (parent (k ∷ q)) ≡ false
   by true f e = f e
   by false f e = refl
 
@@ -108,16 +108,16 @@ pub removed_is : (t : Table) (names : List (List ℕ)) (f : Found) (row : Taken)
 removed_is t names f row rows trash e g h = ap (λ r. record { visible = r; trash = trash; hand = t.hand; next = t.next; age = t.age + 1 }) g
     ∙ ap (λ r. record { visible = gone names t; trash = r; hand = t.hand; next = t.next; age = t.age + 1 }) h ∙ ap (removed names t) (sym e)
 
-pub moved_is : (t : Table) (olds news : List (List ℕ)) (f : Found) (row : Taken) (rows : Rows) → f ≡ Here row → rows ≡ at (parent news) (put (last news) row) (gone olds t)
-    → record { visible = rows; trash = t.trash; hand = t.hand; next = t.next; age = t.age + 1 } ≡ moved olds news t f
-moved_is t olds news f row rows e g = ap (λ r. record { visible = r; trash = t.trash; hand = t.hand; next = t.next; age = t.age + 1 }) g ∙ ap (moved olds news t) (sym e)
+pub moved_is : (t : Table) (olds news : List (List ℕ)) (f : Found) (row : Taken) (rows : Rows) → f ≡ Here row → rows ≡ at (parent news) (with_row (last news) row) (gone olds t)
+    → record { visible = rows; trash = t.trash; hand = t.hand; next = t.next; age = t.age + 1 } ≡ row_moved olds news t f
+moved_is t olds news f row rows e g = ap (λ r. record { visible = r; trash = t.trash; hand = t.hand; next = t.next; age = t.age + 1 }) g ∙ ap (row_moved olds news t) (sym e)
 
 pub emptied_is : (t : Table) (names : List (List ℕ)) (f : Found) (row fresh : Taken) (rows trash : Rows) → f ≡ Here row → fresh ≡ record { id = t.next; file = Some empty_file; inside = End }
-    → rows ≡ at (parent names) (put (last names) fresh) (gone names t) → trash ≡ thrown row t.trash
+    → rows ≡ at (parent names) (with_row (last names) fresh) (gone names t) → trash ≡ thrown row t.trash
     → record { visible = rows; trash = trash; hand = t.hand; next = t.next + 1; age = t.age + 1 } ≡ emptied names t f
 emptied_is t names f row fresh rows trash e x g h =
-    ap (λ r. record { visible = r; trash = trash; hand = t.hand; next = t.next + 1; age = t.age + 1 }) (g ∙ ap (λ z. at (parent names) (put (last names) z) (gone names t)) x)
-    ∙ ap (λ r. record { visible = at (parent names) (put (last names) (record { id = t.next; file = Some empty_file; inside = End })) (gone names t); trash = r; hand = t.hand; next = t.next + 1; age = t.age + 1 }) h
+    ap (λ r. record { visible = r; trash = trash; hand = t.hand; next = t.next + 1; age = t.age + 1 }) (g ∙ ap (λ z. at (parent names) (with_row (last names) z) (gone names t)) x)
+    ∙ ap (λ r. record { visible = at (parent names) (with_row (last names) (record { id = t.next; file = Some empty_file; inside = End })) (gone names t); trash = r; hand = t.hand; next = t.next + 1; age = t.age + 1 }) h
     ∙ ap (emptied names t) (sym e)
 
 -- what a removal leaves
@@ -126,18 +126,18 @@ gone_is t names f row s e h = let x : s ≡ removed names t (Here row) = h ∙ a
 
 -- the directory above what is there
 there_kind : (f : Found) → is_there (seen_row f) ≡ true → (k : Kind) × (kind_of f ≡ Some k)
-there_kind (Here row) e = (kind row.file, refl)
+there_kind (Here row) e = (kind_of row.file, refl)
 there_kind Missing e = absurd (cc)
 there_kind Through e = absurd (cc)
 
-pub parent_there : (items : List Item) (names : List (List ℕ)) → 0 < length names → is_there (seen_row (met_in items names)) ≡ true → is_dir (seen_row (met_in items (parent names))) ≡ true
+pub parent_there : (items : List Item) (names : List (List ℕ)) → 0 < length names → is_there (seen_row (met_in items names)) ≡ true → is_directory_seen (seen_row (met_in items (parent names))) ≡ true
 parent_there items [] h e = absurd (omega arith)
 parent_there items (n ∷ ns) h e =
     let k = there_kind (met_in items (n ∷ ns)) e in
-    let d : look (parent (n ∷ ns)) (root_of items) ≡ Some Dir = parent_dir n ns (root_of items) k.0 (look_resolved (n ∷ ns) (root_of items) ∙ k.1) in
+    let d : kind_below (parent (n ∷ ns)) (root_of items) ≡ Some Dir = parent_dir n ns (root_of items) k.0 (look_resolved (n ∷ ns) (root_of items) ∙ k.1) in
     kind_dir (met_in items (parent (n ∷ ns))) (sym (look_resolved (parent (n ∷ ns)) (root_of items)) ∙ d)
 
-pub not_under : (names : List (List ℕ)) → 0 < length names → under names (parent names) ≡ false
+pub not_under : (names : List (List ℕ)) → 0 < length names → is_at_or_under names (parent names) ≡ false
 not_under [] h = absurd (omega arith)
 not_under (n ∷ ns) h = not_under_parent n ns
 
@@ -155,9 +155,9 @@ pub run_name : (d : ℕ) (n : List ℕ) (run : List Item) → IsRun d n run → 
 run_name d n [] r = absurd r
 run_name d n (i ∷ rest) r = r.1
 
-pub thrown_is : (run before trash : List Item) (n : List ℕ) (row : Taken) (rows : Rows) → IsRun 0 n run → run_row run ≡ row → n ≡ trash_name row.id → rows ≡ put (first_name run) (run_row run) (grown 0 before) → before ≡ trash
+pub thrown_is : (run before trash : List Item) (n : List ℕ) (row : Taken) (rows : Rows) → IsRun 0 n run → run_row run ≡ row → n ≡ trash_name row.id → rows ≡ with_row (first_name run) (run_row run) (grown 0 before) → before ≡ trash
     → rows ≡ thrown row (grown 0 trash)
-thrown_is run before trash n row rows r e f g h = g ∙ ap (λ m. put m (run_row run) (grown 0 before)) (run_name 0 n run r ∙ f) ∙ ap (λ x. put (trash_name row.id) x (grown 0 before)) e ∙ ap (λ x. put (trash_name row.id) row (grown 0 x)) h
+thrown_is run before trash n row rows r e f g h = g ∙ ap (λ m. with_row m (run_row run) (grown 0 before)) (run_name 0 n run r ∙ f) ∙ ap (λ x. with_row (trash_name row.id) x (grown 0 before)) e ∙ ap (λ x. with_row (trash_name row.id) row (grown 0 x)) h
 
 pub id_at : (items : List Item) (k : ℕ) (i : Item) → i ≡ get_or items k i → k < length items → i.id.0 ≡ (run_row (drop k items)).id
 id_at items k i e h = sym (ap (λ r. r.id) (row_at items k i e h))
@@ -256,16 +256,16 @@ file_there AFileBefore e = absurd (cc)
 
 -- a removal, a move and an emptying, over items
 module _ (old new : List Item) (names : List (List ℕ)) (place : ℕ) (named : 0 < length names) (stands : Standing place ≡ stop 0 names old) (left : new ≡ take place old ++ after_run (drop place old)) where
-  pub left_gone : grown 0 new ≡ at (parent names) (without (last names)) (grown 0 old)
+  pub left_gone : grown 0 new ≡ at (parent names) (without_row (last names)) (grown 0 old)
   left_gone = ap (grown 0) left ∙ rows_gone old names place named stands
 
   pub removed_ok : (before trash : List Item) → grown 0 trash ≡ thrown (run_row (drop place old)) (grown 0 before) → (next age : ℕ) → table_over new trash next (age + 1) ≡ removed names (table_over old before next age) (met_in old names)
   removed_ok before trash t next age = removed_is (table_over old before next age) names (met_in old names) (run_row (drop place old)) (grown 0 new) (grown 0 trash) (met_here old names place named stands) left_gone t
 
-  pub moved_ok : (news : List (List ℕ)) (moves run : List Item) → run_row run ≡ run_row (drop place old) → grown 0 moves ≡ at (parent news) (put (last news) (run_row run)) (grown 0 new) → (trash : List Item) (next age : ℕ)
-      → table_over moves trash next (age + 1) ≡ moved names news (table_over old trash next age) (met_in old names)
+  pub moved_ok : (news : List (List ℕ)) (moves run : List Item) → run_row run ≡ run_row (drop place old) → grown 0 moves ≡ at (parent news) (with_row (last news) (run_row run)) (grown 0 new) → (trash : List Item) (next age : ℕ)
+      → table_over moves trash next (age + 1) ≡ row_moved names news (table_over old trash next age) (met_in old names)
   moved_ok news moves run r g trash next age = moved_is (table_over old trash next age) names news (met_in old names) (run_row (drop place old)) (grown 0 moves) (met_here old names place named stands)
-      (g ∙ ap (λ x. at (parent news) (put (last news) x) (grown 0 new)) r ∙ ap (at (parent news) (put (last news) (run_row (drop place old)))) left_gone)
+      (g ∙ ap (λ x. at (parent news) (with_row (last news) x) (grown 0 new)) r ∙ ap (at (parent news) (with_row (last news) (run_row (drop place old)))) left_gone)
 
 there_row : (f : Found) → is_there (seen_row f) ≡ true → (row : Taken) × (f ≡ Here row)
 there_row (Here row) e = (row, refl)
@@ -274,15 +274,15 @@ there_row Through e = absurd (cc)
 
 module _ (old new before trash : List Item) (names : List (List ℕ)) (there : is_there (seen_row (met_in old names)) ≡ true)
     (removes : (next age : ℕ) → table_over new trash next (age + 1) ≡ removed names (table_over old before next age) (met_in old names)) where
-  pub gone_ok : grown 0 new ≡ at (parent names) (without (last names)) (grown 0 old)
+  pub gone_ok : grown 0 new ≡ at (parent names) (without_row (last names)) (grown 0 old)
   gone_ok = let r = there_row (met_in old names) there in (gone_is (table_over old before 0 0) names (met_in old names) r.0 (table_over new trash 0 1) r.1 (removes 0 0)).0
 
-  pub emptied_ok : (id : ℕ) (after run : List Item) (file : Kept) → run_row run ≡ record { id = id; file = Some (file_of file); inside = End } → file_of file ≡ empty_file → grown 0 after ≡ at (parent names) (put (last names) (run_row run)) (grown 0 new) → (age : ℕ)
+  pub emptied_ok : (id : ℕ) (after run : List Item) (file : Kept) → run_row run ≡ record { id = id; file = Some (file_of file); inside = End } → file_of file ≡ empty_file → grown 0 after ≡ at (parent names) (with_row (last names) (run_row run)) (grown 0 new) → (age : ℕ)
       → table_over after trash (id + 1) (age + 1) ≡ emptied names (table_over old before id age) (met_in old names)
   emptied_ok id after run file r e g age =
       let x = there_row (met_in old names) there in
       let y = gone_is (table_over old before id age) names (met_in old names) x.0 (table_over new trash id (age + 1)) x.1 (removes id age) in
-      emptied_is (table_over old before id age) names (met_in old names) x.0 (run_row run) (grown 0 after) (grown 0 trash) x.1 (r ∙ ap (λ z. record { id = id; file = Some z; inside = End }) e) (g ∙ ap (at (parent names) (put (last names) (run_row run))) y.0) y.1
+      emptied_is (table_over old before id age) names (met_in old names) x.0 (run_row run) (grown 0 after) (grown 0 trash) x.1 (r ∙ ap (λ z. record { id = id; file = Some z; inside = End }) e) (g ∙ ap (at (parent names) (with_row (last names) (run_row run))) y.0) y.1
 
 -- a file changed at a path
 pub filed_ok : (items : List Item) (names : List (List ℕ)) (place : ℕ) (change : File → File) (i j : Item) → 0 < length names → Standing place ≡ stop 0 names items → place < length items → i ≡ get_or items place i → IsFiled change (get_or items place i) j

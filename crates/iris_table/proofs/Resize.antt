@@ -4,8 +4,8 @@ use Rattle.std.proofs.lemmas.List.{get_or-take, get_or_append_left, get_or-repli
 use Rattle.std.proofs.lemmas.Bool.Decides.{nat_tests}
 use Rattle.std.specs.Prelude.{nat_lt, nat_le, replicate}
 use Rattle.iris_plain.specs.Checks.{blocks_of}
-use Rattle.iris_plain.specs.Files.{resized}
-use Rattle.iris_table.specs.Sound.{ArePages, byte_at, IsGood}
+use Rattle.iris_plain.specs.Files.{resized_bytes}
+use Rattle.iris_table.specs.Sound.{ArePages, content_byte, IsGood}
 use Rattle.iris_table.specs.Rows.{File, zeros}
 use Rattle.iris_table.specs.Changes.{cut}
 use Rattle.iris_table.specs.View.{content}
@@ -25,10 +25,10 @@ pub zeros_at : (i : ℕ) → get_or zeros i 0 ≡ 0
 unfolding zeros
 zeros_at i = get_or-zeros_all 4096 i
 
-pub length-resized : (len : ℕ) (b : List ℕ) → length (resized len b) ≡ len
+pub length-resized : (len : ℕ) (b : List ℕ) → length (resized_bytes len b) ≡ len
 length-resized len b = omega (arith, length-take len (b ++ replicate (len - length b) 0), length-append b (replicate (len - length b) 0), length-replicate {A = ℕ} (len - length b) 0)
 
-pub resized_at : (len : ℕ) (b : List ℕ) (i : ℕ) → i < len → get_or (resized len b) i 0 ≡ get_or b i 0
+pub resized_at : (len : ℕ) (b : List ℕ) (i : ℕ) → i < len → get_or (resized_bytes len b) i 0 ≡ get_or b i 0
 resized_at len b i h = get_or-take len (b ++ replicate (len - length b) 0) i 0 h ∙ by (less_or i (length b)) where
   by : (i < length b) ⊎ (length b ≤ i) → get_or (b ++ replicate (len - length b) 0) i 0 ≡ get_or b i 0
   by (inl l) = get_or_append_left b _ 0 i l
@@ -62,13 +62,13 @@ cut_pages len f h p = elim (cut_tests len f.size p) [
   | inr r ↦ elim r [ inl b ↦ rw (b.0, b.1) (cut_page (len % 4096) (f.block p) (omega arith) (h p)) | inr d ↦ rw (d.0, d.1) (h p) ]
 ]
 
-pub cut_kept : (len : ℕ) (f : File) (i : ℕ) → ArePages f.block → i < len → byte_at (cut len f).block i ≡ byte_at f.block i
+pub cut_kept : (len : ℕ) (f : File) (i : ℕ) → ArePages f.block → i < len → content_byte (cut len f).block i ≡ content_byte f.block i
 cut_kept len f i h l = elim (cut_tests len f.size (i / 4096)) [
   | inl a ↦ absurd (omega (arith, a.1))
   | inr r ↦ elim r [ inl b ↦ rw (b.0, b.1) (cut_before (len % 4096) (f.block (i / 4096)) (i % 4096) (omega (arith, b.2)) (omega arith) (h (i / 4096))) | inr d ↦ rw (d.0, d.1) refl ]
 ]
 
-pub cut_gone : (len : ℕ) (f : File) (i : ℕ) → IsGood (Some f) → len ≤ i → byte_at (cut len f).block i ≡ 0
+pub cut_gone : (len : ℕ) (f : File) (i : ℕ) → IsGood (Some f) → len ≤ i → content_byte (cut len f).block i ≡ 0
 cut_gone len f i g l = elim (cut_tests len f.size (i / 4096)) [
   | inl a ↦ rw a.0 (zeros_at (i % 4096))
   | inr r ↦ elim r [
@@ -80,7 +80,7 @@ cut_gone len f i g l = elim (cut_tests len f.size (i / 4096)) [
 pub good-cut : (len : ℕ) (f : File) → IsGood (Some f) → IsGood (Some (cut len f))
 good-cut len f g = (cut_pages len f g.0, λ i l. cut_gone len f i g l)
 
-pub content-cut : (len : ℕ) (f : File) → IsGood (Some f) → content (cut len f) ≡ resized len (content f)
+pub content-cut : (len : ℕ) (f : File) → IsGood (Some f) → content (cut len f) ≡ resized_bytes len (content f)
 content-cut len f g = ext_get_or 0 _ _ (length-content (cut len f) pages ∙ sym (length-resized len (content f)))
     (λ i l. get_or-content (cut len f) i pages (omega (arith, length-content (cut len f) pages)) ∙ cut_kept len f i g.0 (omega (arith, length-content (cut len f) pages))
     ∙ sym (get_or-content_all f i g.0 g.1) ∙ sym (resized_at len (content f) i (omega (arith, length-content (cut len f) pages)))) where

@@ -9,12 +9,12 @@ use Rattle.std.specs.declared.cmp.Ordering.{Ordering}
 use Rattle.std.specs.declared.cmp.Ordering.TheVariants.{Less, Equal, Greater}
 use Rattle.std.specs.Cmp.Lexicographic.{slice_cmp, nat_list_cmp_total, texts_ties}
 use Rattle.iris_name.specs.Paths.{is_name, names_of, slashed_names}
-use Rattle.iris_plain.specs.Routes.{before, parent, last}
+use Rattle.iris_plain.specs.Routes.{is_name_before, parent, last}
 use Rattle.iris_plain.proofs.PageLaws.{before_trans}
 use Rattle.iris_plain.specs.declared.files.Kind.TheVariants.{Dir}
-use Rattle.iris_table.specs.Rows.{File, Rows, End, Row, Taken, find, put, without, at, file_at, on_file}
-use Rattle.iris_table.specs.View.{look, into, bound, kind}
-use Rattle.iris_table.specs.Sound.{is_step, has_no_slash, IsAbove, IsOrdered}
+use Rattle.iris_table.specs.Rows.{File, Rows, End, Row, Taken, find, with_row, without_row, at, file_at, on_file}
+use Rattle.iris_table.specs.View.{kind_below, into, bound, kind_of}
+use Rattle.iris_table.specs.Sound.{is_step, has_no_slash, PrecedesFirst, IsOrdered}
 use Rattle.iris_table.proofs.Looks.{none_of}
 use Rattle.iris_table.proofs.Finds.{past}
 
@@ -26,45 +26,45 @@ other_way Greater Less e n r = refl
 other_way Greater Equal e n r = absurd (cc)
 other_way Greater Greater e n r = absurd (cc)
 
-pub before_other : (a b : List ℕ) → before a b ≡ false → bytes_eq a b ≡ false → before b a ≡ true
+pub before_other : (a b : List ℕ) → is_name_before a b ≡ false → bytes_eq a b ≡ false → is_name_before b a ≡ true
 before_other a b e d = other_way (slice_cmp nat_cmp a b) (slice_cmp nat_cmp b a) e (λ x. let k = texts_ties a b in let h : bytes_eq a b ≡ true = k ∙ ap is_eq x in absurd (let y = sym d ∙ h in cc)) (nat_list_cmp_total.antisymm a b)
 
-above_from : (a b : List ℕ) (rows : Rows) → before a b ≡ true → IsAbove b rows → IsAbove a rows
+above_from : (a b : List ℕ) (rows : Rows) → is_name_before a b ≡ true → PrecedesFirst b rows → PrecedesFirst a rows
 above_from a b End e h = tt
 above_from a b (Row id name file inside next) e h = before_trans a b name e h
 
-pub above_put : (a n : List ℕ) (new : Taken) (rows : Rows) → before a n ≡ true → IsAbove a rows → IsAbove a (put n new rows)
+pub above_put : (a n : List ℕ) (new : Taken) (rows : Rows) → is_name_before a n ≡ true → PrecedesFirst a rows → PrecedesFirst a (with_row n new rows)
 above_put a n new End e h = e
-above_put a n new (Row id name file inside next) e h = by (before n name) where
-  by : (b : Bool) → IsAbove a (cond b (Row new.id n new.file new.inside (Row id name file inside next)) (Row id name file inside (put n new next)))
+above_put a n new (Row id name file inside next) e h = by (is_name_before n name) where
+  by : (b : Bool) → PrecedesFirst a (cond b (Row new.id n new.file new.inside (Row id name file inside next)) (Row id name file inside (with_row n new next)))
   by true = e
   by false = h
 
-pub ordered_put : (n : List ℕ) (new : Taken) (rows : Rows) → find n rows ≡ None → is_step n ≡ true → IsOrdered new.inside → IsOrdered rows → IsOrdered (put n new rows)
+pub ordered_put : (n : List ℕ) (new : Taken) (rows : Rows) → find n rows ≡ None → is_step n ≡ true → IsOrdered new.inside → IsOrdered rows → IsOrdered (with_row n new rows)
 ordered_put n new End f g h d = (g, tt, h, tt)
-ordered_put n new (Row id name file inside next) f g h d = let p = past (bytes_eq n name) _ _ f in by (before n name) refl p.0 (ordered_put n new next p.1 g h d.3) where
-  by : (b : Bool) → before n name ≡ b → bytes_eq n name ≡ false → IsOrdered (put n new next) → IsOrdered (cond b (Row new.id n new.file new.inside (Row id name file inside next)) (Row id name file inside (put n new next)))
+ordered_put n new (Row id name file inside next) f g h d = let p = past (bytes_eq n name) _ _ f in by (is_name_before n name) refl p.0 (ordered_put n new next p.1 g h d.3) where
+  by : (b : Bool) → is_name_before n name ≡ b → bytes_eq n name ≡ false → IsOrdered (with_row n new next) → IsOrdered (cond b (Row new.id n new.file new.inside (Row id name file inside next)) (Row id name file inside (with_row n new next)))
   by true e x k = (g, e, h, d)
   by false e x k = (d.0, above_put name n new next (before_other n name e x) d.1, d.2, k)
 
-above_without : (a n : List ℕ) (rows : Rows) → IsAbove a rows → IsOrdered rows → IsAbove a (without n rows)
+above_without : (a n : List ℕ) (rows : Rows) → PrecedesFirst a rows → IsOrdered rows → PrecedesFirst a (without_row n rows)
 above_without a n End h d = tt
 above_without a n (Row id name file inside next) h d = by (bytes_eq n name) where
-  by : (b : Bool) → IsAbove a (cond b next (Row id name file inside (without n next)))
+  by : (b : Bool) → PrecedesFirst a (cond b next (Row id name file inside (without_row n next)))
   by true = above_from a name next h d.1
   by false = h
 
-pub ordered_without : (n : List ℕ) (rows : Rows) → IsOrdered rows → IsOrdered (without n rows)
+pub ordered_without : (n : List ℕ) (rows : Rows) → IsOrdered rows → IsOrdered (without_row n rows)
 ordered_without n End d = tt
 ordered_without n (Row id name file inside next) d = by (bytes_eq n name) (ordered_without n next d.3) where
-  by : (b : Bool) → IsOrdered (without n next) → IsOrdered (cond b next (Row id name file inside (without n next)))
+  by : (b : Bool) → IsOrdered (without_row n next) → IsOrdered (cond b next (Row id name file inside (without_row n next)))
   by true k = d.3
   by false k = (d.0, above_without name n next d.1 d.3, d.2, k)
 
-above_at : (a n : List ℕ) (ns : List (List ℕ)) (f : Rows → Rows) (rows : Rows) → IsAbove a rows → IsAbove a (at (n ∷ ns) f rows)
+above_at : (a n : List ℕ) (ns : List (List ℕ)) (f : Rows → Rows) (rows : Rows) → PrecedesFirst a rows → PrecedesFirst a (at (n ∷ ns) f rows)
 above_at a n ns f End h = tt
 above_at a n ns f (Row id name file inside next) h = by (bytes_eq n name) where
-  by : (b : Bool) → IsAbove a (cond b (Row id name file (at ns f inside) next) (Row id name file inside (at (n ∷ ns) f next)))
+  by : (b : Bool) → PrecedesFirst a (cond b (Row id name file (at ns f inside) next) (Row id name file inside (at (n ∷ ns) f next)))
   by true = h
   by false = h
 
@@ -76,10 +76,10 @@ ordered_at (n ∷ ns) f (Row id name file inside next) k d = by (bytes_eq n name
   by true a b = (d.0, d.1, a, d.3)
   by false a b = (d.0, above_at name n ns f next d.1, d.2, b)
 
-above_file_at : (a n : List ℕ) (f : File → File) (rows : Rows) → IsAbove a rows → IsAbove a (file_at n f rows)
+above_file_at : (a n : List ℕ) (f : File → File) (rows : Rows) → PrecedesFirst a rows → PrecedesFirst a (file_at n f rows)
 above_file_at a n f End h = tt
 above_file_at a n f (Row id name file inside next) h = by (bytes_eq n name) where
-  by : (b : Bool) → IsAbove a (cond b (Row id name (on_file f file) inside next) (Row id name file inside (file_at n f next)))
+  by : (b : Bool) → PrecedesFirst a (cond b (Row id name (on_file f file) inside next) (Row id name file inside (file_at n f next)))
   by true = h
   by false = h
 
@@ -106,15 +106,15 @@ ordered_one n ns f (Row id name file inside next) below e k d = by (bytes_eq n n
   by false e g = (d.0, above_at name n ns f next d.1, d.2, g e)
 
 -- a row put under a path that is free, in a directory that is there
-pub ordered_put_at : (names : List (List ℕ)) (new row : Taken) → look (parent names) row ≡ Some Dir → look names row ≡ None → list_all is_step names ≡ true → IsOrdered new.inside → IsOrdered row.inside
-    → IsOrdered (at (parent names) (put (last names) new) row.inside)
+pub ordered_put_at : (names : List (List ℕ)) (new row : Taken) → kind_below (parent names) row ≡ Some Dir → kind_below names row ≡ None → list_all is_step names ≡ true → IsOrdered new.inside → IsOrdered row.inside
+    → IsOrdered (at (parent names) (with_row (last names) new) row.inside)
 ordered_put_at [] new row d e g h k = absurd (cc)
 ordered_put_at (n ∷ []) new row d e g h k = by row.file d e where
   named : (b : Bool) → b && true ≡ true → b ≡ true
   named true e = refl
   named false e = absurd (cc)
 
-  by : (file : Option File) → Some (kind file) ≡ Some Dir → into file (bound (find n row.inside) (λ below. Some (kind below.file))) ≡ None → IsOrdered (put n new row.inside)
+  by : (file : Option File) → Some (kind_of file) ≡ Some Dir → into file (bound (find n row.inside) (λ below. Some (kind_of below.file))) ≡ None → IsOrdered (with_row n new row.inside)
   by None d e = ordered_put n new row.inside (none_of _ e) (named (is_step n) g) h k
   by (Some f) d e = absurd (cc)
 ordered_put_at (n ∷ m ∷ ns) new row d e g h k = by row.file (find n row.inside) refl d e (λ below d e. ordered_put_at (m ∷ ns) new below d e (rest (is_step n) g)) where
@@ -122,9 +122,9 @@ ordered_put_at (n ∷ m ∷ ns) new row d e g h k = by row.file (find n row.insi
   rest true e = e
   rest false e = absurd (cc)
 
-  by : (file : Option File) (o : Option Taken) → find n row.inside ≡ o → into file (bound o (λ below. look (parent (m ∷ ns)) below)) ≡ Some Dir → into file (bound o (λ below. look (m ∷ ns) below)) ≡ None
-      → ((below : Taken) → look (parent (m ∷ ns)) below ≡ Some Dir → look (m ∷ ns) below ≡ None → IsOrdered new.inside → IsOrdered below.inside → IsOrdered (at (parent (m ∷ ns)) (put (last (m ∷ ns)) new) below.inside))
-      → IsOrdered (at (n ∷ parent (m ∷ ns)) (put (last (m ∷ ns)) new) row.inside)
+  by : (file : Option File) (o : Option Taken) → find n row.inside ≡ o → into file (bound o (λ below. kind_below (parent (m ∷ ns)) below)) ≡ Some Dir → into file (bound o (λ below. kind_below (m ∷ ns) below)) ≡ None
+      → ((below : Taken) → kind_below (parent (m ∷ ns)) below ≡ Some Dir → kind_below (m ∷ ns) below ≡ None → IsOrdered new.inside → IsOrdered below.inside → IsOrdered (at (parent (m ∷ ns)) (with_row (last (m ∷ ns)) new) below.inside))
+      → IsOrdered (at (n ∷ parent (m ∷ ns)) (with_row (last (m ∷ ns)) new) row.inside)
   by (Some f) o x d e ih = absurd (cc)
   by None None x d e ih = absurd (cc)
   by None (Some below) x d e ih = ordered_one n (parent (m ∷ ns)) _ row.inside below x (ih below d e h (ordered_in n row.inside below x k)) k

@@ -7,15 +7,15 @@ use Rattle.iris_name.specs.declared.request.PlainError.TheVariants.{Exists, IsDi
 use Rattle.iris_name.specs.declared.request.Request.{Request}
 use Rattle.iris_name.specs.declared.request.Request.TheVariants.{Mkdir, Create, Write, Read, Resize, Stat, List as ListNames, Rename, Remove, Sync, Root, Reclaim, Probe}
 use Rattle.iris_name.specs.Paths.{names_of}
-use Rattle.iris_plain.specs.Routes.{parent, last, is_top, is_front, under}
-use Rattle.iris_plain.specs.Checks.{is_full, on_names, no_place, new_name, write_checks, resize_checks, move_checks, remove_checks, is_there, is_dir, size_of, unresolved, then_error, error_if, blocks_of}
+use Rattle.iris_plain.specs.Routes.{parent, last, is_top, is_front, is_at_or_under}
+use Rattle.iris_plain.specs.Checks.{is_full, on_names, no_place, new_name, write_checks, resize_checks, move_checks, remove_checks, is_there, is_directory_seen, size_of, unresolved, then_error, error_if, blocks_of}
 use Rattle.iris_plain.specs.declared.checks.Seen.{Seen}
 use Rattle.iris_plain.specs.declared.checks.Seen.TheVariants.{ADirectory, AFile, Nothing, AFileBefore}
 use Rattle.iris_plain.specs.declared.files.Kind.TheVariants.{Dir}
-use Rattle.iris_table.specs.Rows.{File, Rows, End, Row, Table, Taken, root, find, put, without, at, file_at, Found, Here, Missing, Through, met, empty_file, empty_table, resolved, followed, entered}
-use Rattle.iris_table.specs.Changes.{written, cut, freed, filled, made, filed, gone, thrown, removed, moved, emptied, retrashed, reclaimed, seen_in, by_names, changed, stepped, table_verdict, trash_name}
-use Rattle.iris_table.specs.View.{look, kind}
-use Rattle.iris_table.specs.Sound.{IsDistinct, IsGood, AreGood, IsCounted, OnFile, AllFiles, times}
+use Rattle.iris_table.specs.Rows.{File, Rows, End, Row, Table, Taken, root_row, find, with_row, without_row, at, file_at, Found, Here, Missing, Through, met, empty_file, empty_table, resolved, followed, entered}
+use Rattle.iris_table.specs.Changes.{file_written, cut, freed, count_written, made, filed, gone, thrown, removed, row_moved, emptied, retrashed, reclaimed, seen_in, changed_by_names, accepted_change, stepped, table_verdict, trash_name}
+use Rattle.iris_table.specs.View.{kind_below, kind_of}
+use Rattle.iris_table.specs.Sound.{IsDistinct, IsGood, AreGood, IsCounted, OnFile, AllFiles, times_given}
 use Rattle.iris_table.proofs.Steadies.{Steady}
 use Rattle.iris_table.proofs.Held.{holding}
 use Rattle.iris_table.proofs.Looks.{distinct_in}
@@ -43,16 +43,16 @@ given_next : (i next n : ℕ) → 2 ≤ next → n ≤ Given i next → n + cond
 given_next i next n h k = grind (arith, nat_tests)
 
 -- a new row under a path, as its checks say
-made_sound : (t : Table) (names : List (List ℕ)) (file : Option File) → Steady t → look (parent names) (root t) ≡ Some Dir → look names (root t) ≡ None → t.age + 1 ≤ 2 ^ 40
+made_sound : (t : Table) (names : List (List ℕ)) (file : Option File) → Steady t → kind_below (parent names) (root_row t) ≡ Some Dir → kind_below names (root_row t) ≡ None → t.age + 1 ≤ 2 ^ 40
     → IsGood file → OnFile (IsCounted (t.age + 1)) file → Steady (made file names t)
 made_sound t names file s d n a g c = record {
-  distinct = distinct_put_at names (record { id = t.next; file = file; inside = End }) (root t) d n tt s.distinct;
-  good = good_at_path (parent names) (put (last names) _) t.visible (λ inner k. good_put (last names) _ inner g tt k) s.good;
+  distinct = distinct_put_at names (record { id = t.next; file = file; inside = End }) (root_row t) d n tt s.distinct;
+  good = good_at_path (parent names) (with_row (last names) _) t.visible (λ inner k. good_put (last names) _ inner g tt k) s.good;
   trash_good = s.trash_good;
-  counted = all_at (IsCounted (t.age + 1)) (parent names) (put (last names) _) t.visible (λ inner k. all_put (IsCounted (t.age + 1)) (last names) _ inner c tt k) (one_more t.visible t.age s.counted);
+  counted = all_at (IsCounted (t.age + 1)) (parent names) (with_row (last names) _) t.visible (λ inner k. all_put (IsCounted (t.age + 1)) (last names) _ inner c tt k) (one_more t.visible t.age s.counted);
   trash_counted = one_more t.trash t.age s.trash_counted;
-  once = λ i. (let h = times_at i (cond (i == t.next) 1 0) (parent names) (put (last names) (record { id = t.next; file = file; inside = End })) t.visible (λ inner. (let k = times_put i (last names) (record { id = t.next; file = file; inside = End }) inner in omega (arith, k))) in
-      let k = s.once i in let g = given_next i t.next (times i t.visible + times i t.trash) s.first k in omega (arith, h, g));
+  once = λ i. (let h = times_at i (cond (i == t.next) 1 0) (parent names) (with_row (last names) (record { id = t.next; file = file; inside = End })) t.visible (λ inner. (let k = times_put i (last names) (record { id = t.next; file = file; inside = End }) inner in omega (arith, k))) in
+      let k = s.once i in let g = given_next i t.next (times_given i t.visible + times_given i t.trash) s.first k in omega (arith, h, g));
   hand = s.hand;
   first = (let h = s.first in omega (arith, h));
   next = (let h = s.next in omega (arith, h));
@@ -76,20 +76,20 @@ filed_sound t names change s a g c = record {
 }
 
 -- what lies under a path goes into the trash
-gone_sound : (t : Table) (n : List ℕ) (ns : List (List ℕ)) (row : Taken) → Steady t → met t (n ∷ ns) ≡ Here row → (i : ℕ) → times i (gone (n ∷ ns) t) + (cond (i == row.id) 1 0 + times i row.inside) ≡ times i t.visible
-gone_sound t n ns row s e i = times_gone i n ns (root t) row e
+gone_sound : (t : Table) (n : List ℕ) (ns : List (List ℕ)) (row : Taken) → Steady t → met t (n ∷ ns) ≡ Here row → (i : ℕ) → times_given i (gone (n ∷ ns) t) + (cond (i == row.id) 1 0 + times_given i row.inside) ≡ times_given i t.visible
+gone_sound t n ns row s e i = times_gone i n ns (root_row t) row e
 
 removed_sound : (t : Table) (n : List ℕ) (ns : List (List ℕ)) (row : Taken) → Steady t → met t (n ∷ ns) ≡ Here row → t.age + 1 ≤ 2 ^ 40 → Steady (removed (n ∷ ns) t (Here row))
 removed_sound t n ns row s e a =
-    let good = good_at (n ∷ ns) (root t) row e tt s.good in
-    let counted = all_here (IsCounted (t.age + 1)) (n ∷ ns) (root t) row e tt (one_more t.visible t.age s.counted) in
+    let good = good_at (n ∷ ns) (root_row t) row e tt s.good in
+    let counted = all_here (IsCounted (t.age + 1)) (n ∷ ns) (root_row t) row e tt (one_more t.visible t.age s.counted) in
     record {
-      distinct = distinct_at (parent (n ∷ ns)) (without (last (n ∷ ns))) t.visible (λ inner d. distinct_without (last (n ∷ ns)) inner d) s.distinct;
-      good = good_at_path (parent (n ∷ ns)) (without (last (n ∷ ns))) t.visible (λ inner d. good_without (last (n ∷ ns)) inner d) s.good;
+      distinct = distinct_at (parent (n ∷ ns)) (without_row (last (n ∷ ns))) t.visible (λ inner d. distinct_without (last (n ∷ ns)) inner d) s.distinct;
+      good = good_at_path (parent (n ∷ ns)) (without_row (last (n ∷ ns))) t.visible (λ inner d. good_without (last (n ∷ ns)) inner d) s.good;
       trash_good = good_put (trash_name row.id) row t.trash good.0 good.1 s.trash_good;
-      counted = all_at (IsCounted (t.age + 1)) (parent (n ∷ ns)) (without (last (n ∷ ns))) t.visible (λ inner d. all_without (IsCounted (t.age + 1)) (last (n ∷ ns)) inner d) (one_more t.visible t.age s.counted);
+      counted = all_at (IsCounted (t.age + 1)) (parent (n ∷ ns)) (without_row (last (n ∷ ns))) t.visible (λ inner d. all_without (IsCounted (t.age + 1)) (last (n ∷ ns)) inner d) (one_more t.visible t.age s.counted);
       trash_counted = all_put (IsCounted (t.age + 1)) (trash_name row.id) row t.trash counted.0 counted.1 (one_more t.trash t.age s.trash_counted);
-      once = λ i. (let h = times_gone i n ns (root t) row e in let g = times_put i (trash_name row.id) row t.trash in let k = s.once i in omega (arith, h, g, k));
+      once = λ i. (let h = times_gone i n ns (root_row t) row e in let g = times_put i (trash_name row.id) row t.trash in let k = s.once i in omega (arith, h, g, k));
       hand = s.hand;
       first = s.first;
       next = (let h = s.next in omega (arith, h));
@@ -98,20 +98,20 @@ removed_sound t n ns row s e a =
 
 -- a row moves to another path, whose directory is there and which is free, once it is gone
 moved_sound : (t : Table) (n : List ℕ) (ns news : List (List ℕ)) (row : Taken) → Steady t → met t (n ∷ ns) ≡ Here row → t.age + 1 ≤ 2 ^ 40
-    → look (parent news) (holding (gone (n ∷ ns) t) (root t)) ≡ Some Dir → look news (holding (gone (n ∷ ns) t) (root t)) ≡ None → IsDistinct row.inside → Steady (moved (n ∷ ns) news t (Here row))
+    → kind_below (parent news) (holding (gone (n ∷ ns) t) (root_row t)) ≡ Some Dir → kind_below news (holding (gone (n ∷ ns) t) (root_row t)) ≡ None → IsDistinct row.inside → Steady (row_moved (n ∷ ns) news t (Here row))
 moved_sound t n ns news row s e a d f inner =
-    let good = good_at (n ∷ ns) (root t) row e tt s.good in
-    let counted = all_here (IsCounted (t.age + 1)) (n ∷ ns) (root t) row e tt (one_more t.visible t.age s.counted) in
+    let good = good_at (n ∷ ns) (root_row t) row e tt s.good in
+    let counted = all_here (IsCounted (t.age + 1)) (n ∷ ns) (root_row t) row e tt (one_more t.visible t.age s.counted) in
     record {
-      distinct = distinct_put_at news row (holding (gone (n ∷ ns) t) (root t)) d f inner (distinct_at (parent (n ∷ ns)) (without (last (n ∷ ns))) t.visible (λ inner d. distinct_without (last (n ∷ ns)) inner d) s.distinct);
-      good = good_at_path (parent news) (put (last news) row) (gone (n ∷ ns) t) (λ inner d. good_put (last news) row inner good.0 good.1 d)
-          (good_at_path (parent (n ∷ ns)) (without (last (n ∷ ns))) t.visible (λ inner d. good_without (last (n ∷ ns)) inner d) s.good);
+      distinct = distinct_put_at news row (holding (gone (n ∷ ns) t) (root_row t)) d f inner (distinct_at (parent (n ∷ ns)) (without_row (last (n ∷ ns))) t.visible (λ inner d. distinct_without (last (n ∷ ns)) inner d) s.distinct);
+      good = good_at_path (parent news) (with_row (last news) row) (gone (n ∷ ns) t) (λ inner d. good_put (last news) row inner good.0 good.1 d)
+          (good_at_path (parent (n ∷ ns)) (without_row (last (n ∷ ns))) t.visible (λ inner d. good_without (last (n ∷ ns)) inner d) s.good);
       trash_good = s.trash_good;
-      counted = all_at (IsCounted (t.age + 1)) (parent news) (put (last news) row) (gone (n ∷ ns) t) (λ inner d. all_put (IsCounted (t.age + 1)) (last news) row inner counted.0 counted.1 d)
-          (all_at (IsCounted (t.age + 1)) (parent (n ∷ ns)) (without (last (n ∷ ns))) t.visible (λ inner d. all_without (IsCounted (t.age + 1)) (last (n ∷ ns)) inner d) (one_more t.visible t.age s.counted));
+      counted = all_at (IsCounted (t.age + 1)) (parent news) (with_row (last news) row) (gone (n ∷ ns) t) (λ inner d. all_put (IsCounted (t.age + 1)) (last news) row inner counted.0 counted.1 d)
+          (all_at (IsCounted (t.age + 1)) (parent (n ∷ ns)) (without_row (last (n ∷ ns))) t.visible (λ inner d. all_without (IsCounted (t.age + 1)) (last (n ∷ ns)) inner d) (one_more t.visible t.age s.counted));
       trash_counted = one_more t.trash t.age s.trash_counted;
-      once = λ i. (let h = times_gone i n ns (root t) row e in
-          let g = times_at i (cond (i == row.id) 1 0 + times i row.inside) (parent news) (put (last news) row) (gone (n ∷ ns) t) (λ inner. (let k = times_put i (last news) row inner in omega (arith, k))) in
+      once = λ i. (let h = times_gone i n ns (root_row t) row e in
+          let g = times_at i (cond (i == row.id) 1 0 + times_given i row.inside) (parent news) (with_row (last news) row) (gone (n ∷ ns) t) (λ inner. (let k = times_put i (last news) row inner in omega (arith, k))) in
           let k = s.once i in omega (arith, h, g, k));
       hand = s.hand;
       first = s.first;
@@ -121,22 +121,22 @@ moved_sound t n ns news row s e a d f inner =
 
 -- a new file stands in place of a row that moves into the trash
 emptied_sound : (t : Table) (n : List ℕ) (ns : List (List ℕ)) (row : Taken) → Steady t → met t (n ∷ ns) ≡ Here row → t.age + 1 ≤ 2 ^ 40
-    → look (parent (n ∷ ns)) (holding (gone (n ∷ ns) t) (root t)) ≡ Some Dir → look (n ∷ ns) (holding (gone (n ∷ ns) t) (root t)) ≡ None → Steady (emptied (n ∷ ns) t (Here row))
+    → kind_below (parent (n ∷ ns)) (holding (gone (n ∷ ns) t) (root_row t)) ≡ Some Dir → kind_below (n ∷ ns) (holding (gone (n ∷ ns) t) (root_row t)) ≡ None → Steady (emptied (n ∷ ns) t (Here row))
 emptied_sound t n ns row s e a d f =
-    let good = good_at (n ∷ ns) (root t) row e tt s.good in
-    let counted = all_here (IsCounted (t.age + 1)) (n ∷ ns) (root t) row e tt (one_more t.visible t.age s.counted) in
+    let good = good_at (n ∷ ns) (root_row t) row e tt s.good in
+    let counted = all_here (IsCounted (t.age + 1)) (n ∷ ns) (root_row t) row e tt (one_more t.visible t.age s.counted) in
     let new : Taken = record { id = t.next; file = Some empty_file; inside = End } in
     record {
-      distinct = distinct_put_at (n ∷ ns) new (holding (gone (n ∷ ns) t) (root t)) d f tt (distinct_at (parent (n ∷ ns)) (without (last (n ∷ ns))) t.visible (λ inner d. distinct_without (last (n ∷ ns)) inner d) s.distinct);
-      good = good_at_path (parent (n ∷ ns)) (put (last (n ∷ ns)) new) (gone (n ∷ ns) t) (λ inner d. good_put (last (n ∷ ns)) new inner good_empty tt d)
-          (good_at_path (parent (n ∷ ns)) (without (last (n ∷ ns))) t.visible (λ inner d. good_without (last (n ∷ ns)) inner d) s.good);
+      distinct = distinct_put_at (n ∷ ns) new (holding (gone (n ∷ ns) t) (root_row t)) d f tt (distinct_at (parent (n ∷ ns)) (without_row (last (n ∷ ns))) t.visible (λ inner d. distinct_without (last (n ∷ ns)) inner d) s.distinct);
+      good = good_at_path (parent (n ∷ ns)) (with_row (last (n ∷ ns)) new) (gone (n ∷ ns) t) (λ inner d. good_put (last (n ∷ ns)) new inner good_empty tt d)
+          (good_at_path (parent (n ∷ ns)) (without_row (last (n ∷ ns))) t.visible (λ inner d. good_without (last (n ∷ ns)) inner d) s.good);
       trash_good = good_put (trash_name row.id) row t.trash good.0 good.1 s.trash_good;
-      counted = all_at (IsCounted (t.age + 1)) (parent (n ∷ ns)) (put (last (n ∷ ns)) new) (gone (n ∷ ns) t) (λ inner d. all_put (IsCounted (t.age + 1)) (last (n ∷ ns)) new inner (counted_empty (t.age + 1)) tt d)
-          (all_at (IsCounted (t.age + 1)) (parent (n ∷ ns)) (without (last (n ∷ ns))) t.visible (λ inner d. all_without (IsCounted (t.age + 1)) (last (n ∷ ns)) inner d) (one_more t.visible t.age s.counted));
+      counted = all_at (IsCounted (t.age + 1)) (parent (n ∷ ns)) (with_row (last (n ∷ ns)) new) (gone (n ∷ ns) t) (λ inner d. all_put (IsCounted (t.age + 1)) (last (n ∷ ns)) new inner (counted_empty (t.age + 1)) tt d)
+          (all_at (IsCounted (t.age + 1)) (parent (n ∷ ns)) (without_row (last (n ∷ ns))) t.visible (λ inner d. all_without (IsCounted (t.age + 1)) (last (n ∷ ns)) inner d) (one_more t.visible t.age s.counted));
       trash_counted = all_put (IsCounted (t.age + 1)) (trash_name row.id) row t.trash counted.0 counted.1 (one_more t.trash t.age s.trash_counted);
-      once = λ i. (let h = times_gone i n ns (root t) row e in let p = times_put i (trash_name row.id) row t.trash in
-          let g = times_at i (cond (i == t.next) 1 0) (parent (n ∷ ns)) (put (last (n ∷ ns)) new) (gone (n ∷ ns) t) (λ inner. (let k = times_put i (last (n ∷ ns)) new inner in omega (arith, k))) in
-          let k = s.once i in let v = given_next i t.next (times i t.visible + times i t.trash) s.first k in omega (arith, h, p, g, v));
+      once = λ i. (let h = times_gone i n ns (root_row t) row e in let p = times_put i (trash_name row.id) row t.trash in
+          let g = times_at i (cond (i == t.next) 1 0) (parent (n ∷ ns)) (with_row (last (n ∷ ns)) new) (gone (n ∷ ns) t) (λ inner. (let k = times_put i (last (n ∷ ns)) new inner in omega (arith, k))) in
+          let k = s.once i in let v = given_next i t.next (times_given i t.visible + times_given i t.trash) s.first k in omega (arith, h, p, g, v));
       hand = s.hand;
       first = (let h = s.first in omega (arith, h));
       next = (let h = s.next in omega (arith, h));
@@ -144,7 +144,7 @@ emptied_sound t n ns row s e a d f =
     }
 
 -- another trash with no more ids
-retrashed_sound : (t : Table) (rows : Rows) → Steady t → AreGood rows → AllFiles (IsCounted t.age) rows → ((i : ℕ) → times i rows ≤ times i t.trash) → Steady (retrashed rows t)
+retrashed_sound : (t : Table) (rows : Rows) → Steady t → AreGood rows → AllFiles (IsCounted t.age) rows → ((i : ℕ) → times_given i rows ≤ times_given i t.trash) → Steady (retrashed rows t)
 retrashed_sound t rows s g c o = record {
   distinct = s.distinct;
   good = s.good;
@@ -158,7 +158,7 @@ retrashed_sound t rows s g c o = record {
   age = s.age;
 }
 
-reclaimed_sound : (t : Table) (rows : Rows) → Steady t → AreGood rows → AllFiles (IsCounted t.age) rows → ((i : ℕ) → times i rows ≤ times i t.trash) → Steady (reclaimed t rows)
+reclaimed_sound : (t : Table) (rows : Rows) → Steady t → AreGood rows → AllFiles (IsCounted t.age) rows → ((i : ℕ) → times_given i rows ≤ times_given i t.trash) → Steady (reclaimed t rows)
 reclaimed_sound t End s g c o = s
 reclaimed_sound t (Row id name None End next) s g c o = retrashed_sound t next s g.2 c.2 (λ i. (let h = o i in omega (arith, h)))
 reclaimed_sound t (Row id name None (Row i n file inside others) next) s g c o =
@@ -166,7 +166,7 @@ reclaimed_sound t (Row id name None (Row i n file inside others) next) s g c o =
     (good_put (trash_name i) (record { id = i; file = file; inside = inside }) (Row id name None others next) g.1.0 g.1.1 (tt, g.1.2, g.2))
     (all_put (IsCounted t.age) (trash_name i) (record { id = i; file = file; inside = inside }) (Row id name None others next) c.1.0 c.1.1 (tt, c.1.2, c.2))
     (λ j. (let h = o j in let p = times_put j (trash_name i) (record { id = i; file = file; inside = inside }) (Row id name None others next) in omega (arith, h, p)))
-reclaimed_sound t (Row id name (Some file) inside next) s g c o = by (filled file.version (blocks_of file.size) == 0) where
+reclaimed_sound t (Row id name (Some file) inside next) s g c o = by (count_written file.version (blocks_of file.size) == 0) where
   by : (b : Bool) → Steady (cond b (retrashed next t) (retrashed (Row id name (Some (freed file)) inside next) t))
   by true = retrashed_sound t next s g.2 c.2 (λ i. (let h = o i in omega (arith, h)))
   by false = retrashed_sound t (Row id name (Some (freed file)) inside next) s (good_freed file g.0, g.1, g.2) (counted_freed t.age file c.0, c.1, c.2) o
@@ -205,7 +205,7 @@ last_full long false e = refl
 last_full true true e = absurd (cc)
 last_full false true e = absurd (cc)
 
-write_full : (here : Seen) (much long full none : Bool) → then_error (error_if much TooMuch) (then_error (unresolved here) (then_error (error_if (is_dir here) IsDir) (cond none None (then_error (error_if long TooLong) (error_if full Full))))) ≡ None
+write_full : (here : Seen) (much long full none : Bool) → then_error (error_if much TooMuch) (then_error (unresolved here) (then_error (error_if (is_directory_seen here) IsDir) (cond none None (then_error (error_if long TooLong) (error_if full Full))))) ≡ None
     → none ≡ false → full ≡ false
 write_full here true long full none e z = absurd (cc)
 write_full ADirectory false long full none e z = absurd (cc)
@@ -213,7 +213,7 @@ write_full (AFile n) false long full none e z = last_full long full (rw z at e)
 write_full Nothing false long full none e z = absurd (cc)
 write_full AFileBefore false long full none e z = absurd (cc)
 
-resize_full : (here : Seen) (long same much full : Bool) → then_error (unresolved here) (then_error (error_if (is_dir here) IsDir) (then_error (error_if long TooLong) (cond same None (then_error (error_if much TooMuch) (error_if full Full))))) ≡ None
+resize_full : (here : Seen) (long same much full : Bool) → then_error (unresolved here) (then_error (error_if (is_directory_seen here) IsDir) (then_error (error_if long TooLong) (cond same None (then_error (error_if much TooMuch) (error_if full Full))))) ≡ None
     → same ≡ false → full ≡ false
 resize_full ADirectory long same much full e z = absurd (cc)
 resize_full Nothing long same much full e z = absurd (cc)
@@ -226,13 +226,13 @@ resize_full (AFile n) false same much full e z = by much full (rw z at e) where
   by false true e = absurd (cc)
 
 on_made : (t : Table) (o : Option (List (List ℕ))) (file : Option File) → Steady t → IsGood file → OnFile (IsCounted (t.age + 1)) file → on_names o (no_place (seen_in t) (is_full t.age)) ≡ None
-    → Steady (by_names t o (λ names. made file names t))
+    → Steady (changed_by_names t o (λ names. made file names t))
 on_made t None file s g c e = s
 on_made t (Some names) file s g c e =
     let p = places (seen_in t (parent names)) (seen_in t names) (is_top names) (is_full t.age) e in
     made_sound t names file s (look_dir t (parent names) p.1) (look_none t names p.2) (room t.age (new_full (is_top names) (seen_in t (parent names)) (seen_in t names) (is_full t.age) e)) g c
 
-on_removed : (t : Table) (o : Option (List (List ℕ))) → Steady t → on_names o (λ names. remove_checks (is_top names) (seen_in t names) (is_full t.age)) ≡ None → Steady (by_names t o (λ names. removed names t (met t names)))
+on_removed : (t : Table) (o : Option (List (List ℕ))) → Steady t → on_names o (λ names. remove_checks (is_top names) (seen_in t names) (is_full t.age)) ≡ None → Steady (changed_by_names t o (λ names. removed names t (met t names)))
 on_removed t None s e = s
 on_removed t (Some []) s e = absurd (cc)
 on_removed t (Some (n ∷ ns)) s e = by (met t (n ∷ ns)) refl where
@@ -241,48 +241,48 @@ on_removed t (Some (n ∷ ns)) s e = by (met t (n ∷ ns)) refl where
   by Missing h = s
   by Through h = s
 
-moved_any : (t : Table) (n : List ℕ) (ns news : List (List ℕ)) → Steady t → is_front (n ∷ ns) news ≡ false → no_place (seen_in t) (is_full t.age) news ≡ None → Steady (moved (n ∷ ns) news t (met t (n ∷ ns)))
+moved_any : (t : Table) (n : List ℕ) (ns news : List (List ℕ)) → Steady t → is_front (n ∷ ns) news ≡ false → no_place (seen_in t) (is_full t.age) news ≡ None → Steady (row_moved (n ∷ ns) news t (met t (n ∷ ns)))
 moved_any t n ns news s ahead e = by (met t (n ∷ ns)) refl where
-  by : (f : Found) → met t (n ∷ ns) ≡ f → Steady (moved (n ∷ ns) news t f)
+  by : (f : Found) → met t (n ∷ ns) ≡ f → Steady (row_moved (n ∷ ns) news t f)
   by (Here row) h =
       let p = places (seen_in t (parent news)) (seen_in t news) (is_top news) (is_full t.age) e in
-      let u : under (n ∷ ns) (parent news) ≡ false = not_under _ (λ x. let y = front (n ∷ ns) news p.0 x in absurd (let z = sym ahead ∙ y in cc)) in
+      let u : is_at_or_under (n ∷ ns) (parent news) ≡ false = not_under _ (λ x. let y = front (n ∷ ns) news p.0 x in absurd (let z = sym ahead ∙ y in cc)) in
       moved_sound t n ns news row s h (room t.age (new_full (is_top news) (seen_in t (parent news)) (seen_in t news) (is_full t.age) e))
-      (cleared_at (n ∷ ns) t (parent news) refl s.distinct ∙ ap (λ b. cond b None (look (parent news) (root t))) u ∙ look_dir t (parent news) p.1)
+      (cleared_at (n ∷ ns) t (parent news) refl s.distinct ∙ ap (λ b. cond b None (kind_below (parent news) (root_row t))) u ∙ look_dir t (parent news) p.1)
       (cleared_at (n ∷ ns) t news refl s.distinct ∙ both_none _ _ (look_none t news p.2))
-      (distinct_here (n ∷ ns) (root t) row h s.distinct)
+      (distinct_here (n ∷ ns) (root_row t) row h s.distinct)
   by Missing h = s
   by Through h = s
 
 on_moved : (t : Table) (o k : Option (List (List ℕ))) → Steady t
     → on_names o (λ olds. on_names k (λ news. move_checks (is_top olds) (seen_in t olds) (is_front olds news) (no_place (seen_in t) (is_full t.age) news))) ≡ None
-    → Steady (by_names t o (λ olds. by_names t k (λ news. moved olds news t (met t olds))))
+    → Steady (changed_by_names t o (λ olds. changed_by_names t k (λ news. row_moved olds news t (met t olds))))
 on_moved t None k s e = s
 on_moved t (Some olds) None s e = s
 on_moved t (Some []) (Some news) s e = absurd (cc)
 on_moved t (Some (n ∷ ns)) (Some news) s e = let p = moves (seen_in t (n ∷ ns)) false (is_front (n ∷ ns) news) _ e in moved_any t n ns news s p.2 p.3
 
 on_written : (t : Table) (o : Option (List (List ℕ))) (offset : ℕ) (bytes : List ℕ) → Steady t → on_names o (λ names. write_checks (seen_in t names) offset (length bytes) (is_full t.age)) ≡ None
-    → Steady (by_names t o (λ names. cond (length bytes == 0) t (filed (written offset bytes) names t)))
+    → Steady (changed_by_names t o (λ names. cond (length bytes == 0) t (filed (file_written offset bytes) names t)))
 on_written t None offset bytes s e = s
 on_written t (Some names) offset bytes s e = elim (positive (length bytes)) [
   | inl z ↦ rw z s
-  | inr z ↦ rw z.0 (filed_sound t names (written offset bytes) s (room t.age (write_full (seen_in t names) _ _ (is_full t.age) _ e z.0)) (λ f g. good-written offset bytes f z.1 g) (λ f c. counted_written t.age offset bytes f z.1 c))
+  | inr z ↦ rw z.0 (filed_sound t names (file_written offset bytes) s (room t.age (write_full (seen_in t names) _ _ (is_full t.age) _ e z.0)) (λ f g. good-written offset bytes f z.1 g) (λ f c. counted_written t.age offset bytes f z.1 c))
 ]
 
 emptied_any : (t : Table) (n : List ℕ) (ns : List (List ℕ)) → Steady t → t.age + 1 ≤ 2 ^ 40 → Steady (emptied (n ∷ ns) t (met t (n ∷ ns)))
 emptied_any t n ns s a = by (met t (n ∷ ns)) refl where
   by : (f : Found) → met t (n ∷ ns) ≡ f → Steady (emptied (n ∷ ns) t f)
   by (Here row) h =
-      let there : look (n ∷ ns) (root t) ≡ Some (kind row.file) = look_resolved (n ∷ ns) (root t) ∙ ap kind_of h in
+      let there : kind_below (n ∷ ns) (root_row t) ≡ Some (kind_of row.file) = look_resolved (n ∷ ns) (root_row t) ∙ ap kind_of h in
       emptied_sound t n ns row s h a
-      (cleared_at (n ∷ ns) t (parent (n ∷ ns)) refl s.distinct ∙ ap (λ b. cond b None (look (parent (n ∷ ns)) (root t))) (not_under_parent n ns) ∙ parent_dir n ns (root t) (kind row.file) there)
-      (cleared_at (n ∷ ns) t (n ∷ ns) refl s.distinct ∙ ap (λ b. cond b None (look (n ∷ ns) (root t))) (under_self (n ∷ ns)))
+      (cleared_at (n ∷ ns) t (parent (n ∷ ns)) refl s.distinct ∙ ap (λ b. cond b None (kind_below (parent (n ∷ ns)) (root_row t))) (not_under_parent n ns) ∙ parent_dir n ns (root_row t) (kind_of row.file) there)
+      (cleared_at (n ∷ ns) t (n ∷ ns) refl s.distinct ∙ ap (λ b. cond b None (kind_below (n ∷ ns) (root_row t))) (under_self (n ∷ ns)))
   by Missing h = s
   by Through h = s
 
 on_resized : (t : Table) (o : Option (List (List ℕ))) (size : ℕ) → Steady t → on_names o (λ names. resize_checks (seen_in t names) size (is_full t.age)) ≡ None
-    → Steady (by_names t o (λ names. cond (size == size_of (seen_in t names)) t (cond (size == 0) (emptied names t (met t names)) (filed (cut size) names t))))
+    → Steady (changed_by_names t o (λ names. cond (size == size_of (seen_in t names)) t (cond (size == 0) (emptied names t (met t names)) (filed (cut size) names t))))
 on_resized t None size s e = s
 on_resized t (Some []) size s e = absurd (cc)
 on_resized t (Some (n ∷ ns)) size s e = by (size == size_of (seen_in t (n ∷ ns))) refl where
@@ -296,7 +296,7 @@ on_resized t (Some (n ∷ ns)) size s e = by (size == size_of (seen_in t (n ∷ 
     inner true = emptied_any t n ns s a
     inner false = filed_sound t (n ∷ ns) (cut size) s a (λ f g. good-cut size f g) (λ f c. counted_cut t.age size f c)
 
-changed_sound : (t : Table) (r : Request) → Steady t → table_verdict t r ≡ None → Steady (changed t r)
+changed_sound : (t : Table) (r : Request) → Steady t → table_verdict t r ≡ None → Steady (accepted_change t r)
 changed_sound t (Mkdir path) s e = on_made t (names_of path) None s tt tt e
 changed_sound t (Create path) s e = on_made t (names_of path) (Some empty_file) s good_empty (counted_empty (t.age + 1)) e
 changed_sound t (Write path offset bytes) s e = on_written t (names_of path) offset bytes s e
@@ -308,13 +308,13 @@ changed_sound t (Rename from to) s e = on_moved t (names_of from) (names_of to) 
 changed_sound t (Remove path) s e = on_removed t (names_of path) s e
 changed_sound t Sync s e = s
 changed_sound t Root s e = s
-changed_sound t Reclaim s e = reclaimed_sound t t.trash s s.trash_good s.trash_counted (λ i. (let h : times i t.trash ≤ times i t.trash = omega arith in h))
+changed_sound t Reclaim s e = reclaimed_sound t t.trash s s.trash_good s.trash_counted (λ i. (let h : times_given i t.trash ≤ times_given i t.trash = omega arith in h))
 changed_sound t (Probe at) s e = s
 
 -- the next table is so
 pub steady_kept : (t : Table) (r : Request) → Steady t → Steady (stepped t r)
 steady_kept t r s = by (table_verdict t r) refl where
-  by : (v : Option PlainError) → table_verdict t r ≡ v → Steady (cond (is_none v) (changed t r) t)
+  by : (v : Option PlainError) → table_verdict t r ≡ v → Steady (cond (is_none v) (accepted_change t r) t)
   by None e = changed_sound t r s e
   by (Some x) e = s
 

@@ -13,8 +13,8 @@ use Rattle.iris_shape.specs.Local.{either}
 use Rattle.iris_shape.specs.Order.{beside}
 use Rattle.iris_shape.specs.Treap.{Treap, Empty, Over, treap}
 use Rattle.iris_table.specs.Rows.{File, Rows, End, Row}
-use Rattle.iris_shape.specs.Sides.{side}
-use Rattle.iris_table.specs.Shown.{Own, own_id, versions, entry, entries, arranged, owns, directory, entry_in, part_in, block_in, in_directory, in_parts, in_file, inside_rows}
+use Rattle.iris_shape.specs.Sides.{unfolded_side}
+use Rattle.iris_table.specs.Shown.{Own, own_id, versions, entry_above, unfolded_entries, treap_of_entries, owns, directory, entry_in, part_in, block_of_place, in_directory, in_parts, in_file, inside_rows}
 use Rattle.iris_table.proofs.Counting.{inside_by, inside_own}
 use Rattle.iris_table.proofs.Nesting.{Nest, Both, Holds, nest}
 use Rattle.iris_table.proofs.Sorting.{Some_row, Some_in, in_treap}
@@ -91,10 +91,10 @@ part_same g l i file level index e h =
     let a : g.0 ≡ file = grind (arith, nat_tests) in let b : l ≡ level = grind (arith, nat_tests) in let c : i ≡ index = grind (arith, nat_tests) in
     ap (λ z. Part (id_of z) l i) a ∙ ap (λ z. Part (id_of file) z i) b ∙ ap (λ z. Part (id_of file) level z) c
 
-part_stands : (g : FileId) (l i file level index : ℕ) (x : Fold) (w : Unfolded) → (g.0 == file) ≡ true → part_in l i (side file level index x) ≡ Some w → Stands (Part g l i) w (nest (side file level index x))
+part_stands : (g : FileId) (l i file level index : ℕ) (x : Fold) (w : Unfolded) → (g.0 == file) ≡ true → part_in l i (unfolded_side file level index x) ≡ Some w → Stands (Part g l i) w (nest (unfolded_side file level index x))
 part_stands g l i file level index (One v) w h e = absurd (cc)
 part_stands g l i file level index (Two x y) w h e =
-    let low = side file (level - 1) (2 * index) x in let high = side file (level - 1) (2 * index + 1) y in
+    let low = unfolded_side file (level - 1) (2 * index) x in let high = unfolded_side file (level - 1) (2 * index + 1) y in
     elim (cond_of ((l == level) && (i == index)) (Split file level index low high) w (either (part_in l i low) (part_in l i high)) e) [
       | inl s ↦ (Both (nest low) (nest high), inl (sym s.1, part_same g l i file level index h s.0, refl))
       | inr s ↦ elim (either_of (part_in l i low) (part_in l i high) w s) [
@@ -117,28 +117,28 @@ file_stands : (n : Name) (id : ℕ) (f : File) (w : Unfolded) → in_file n id f
 file_stands (Entry i) id f w e = absurd (cc)
 file_stands (Part g l i) id f w e = elim (either_of (in_parts (Part g l i) id (versions id f)) None w e) [ inl s ↦ parts_stand g l i id f w s | inr s ↦ absurd (cc) ]
 file_stands (Block g p) id f w e = by (g.0 == id) e where
-  by : (c : Bool) → cond c (block_in p f) None ≡ Some w → IsStored w
+  by : (c : Bool) → cond c (block_of_place p f) None ≡ Some w → IsStored w
   by true e = stored_is (f.version p) (f.block p) (f.version p == 0) w e
   by false e = absurd (cc)
 
 -- what stands inside an entry stands in its directory
 held_entry : (w : Unfolded) (n : Name) (k : Nest) (o : Own) (file : Option File) (less more : Unfolded)
-    → Holds w n k (nest less) ⊎ (Holds w n k (nest more) ⊎ Holds w n k (inside_by o.id o.inside file)) → Holds w n k (nest (entry o file less more))
+    → Holds w n k (nest less) ⊎ (Holds w n k (nest more) ⊎ Holds w n k (inside_by o.id o.inside file)) → Holds w n k (nest (entry_above o file less more))
 held_entry w n k o None less more h = inr h
 held_entry w n k o (Some f) less more h = inr h
 
-held_entries : (w : Unfolded) (n : Name) (k : Nest) (t : Treap Own) → Some_in (λ o. Holds w n k (inside_own o)) t → Holds w n k (nest (entries t))
+held_entries : (w : Unfolded) (n : Name) (k : Nest) (t : Treap Own) → Some_in (λ o. Holds w n k (inside_own o)) t → Holds w n k (nest (unfolded_entries t))
 held_entries w n k Empty h = absurd h
-held_entries w n k (Over o l m) h = held_entry w n k o o.file (entries l) (entries m) (elim h [
+held_entries w n k (Over o l m) h = held_entry w n k o o.file (unfolded_entries l) (unfolded_entries m) (elim h [
   | inl s ↦ inr (inr s)
   | inr s ↦ elim s [ inl a ↦ inl (held_entries w n k l a) | inr a ↦ inr (inl (held_entries w n k m a)) ]
 ])
 
-held_arranged : (order : List ℕ) (w : Unfolded) (n : Name) (k : Nest) (os : List Own) → Some_row (λ o. Holds w n k (inside_own o)) os → Holds w n k (nest (arranged order os))
+held_arranged : (order : List ℕ) (w : Unfolded) (n : Name) (k : Nest) (os : List Own) → Some_row (λ o. Holds w n k (inside_own o)) os → Holds w n k (nest (treap_of_entries order os))
 held_arranged order w n k os h =
     held_entries w n k (treap (beside (priority order) own_id) os) (in_treap (λ o. Holds w n k (inside_own o)) (beside (priority order) own_id) os h)
 
-row_arranged : (order : List ℕ) (n : Name) (w : Unfolded) (os : List Own) → StandsRow n w os → Stands n w (nest (arranged order os))
+row_arranged : (order : List ℕ) (n : Name) (w : Unfolded) (os : List Own) → StandsRow n w os → Stands n w (nest (treap_of_entries order os))
 row_arranged order (Block f p) w os s = s
 row_arranged order (Entry i) w os s = (s.0, held_arranged order w (Entry i) s.0 os s.1)
 row_arranged order (Part f l i) w os s = (s.0, held_arranged order w (Part f l i) s.0 os s.1)
@@ -158,7 +158,7 @@ inside_stands : (order : List ℕ) (n : Name) (rows : Rows) (w : Unfolded) → i
 unfolding directory
 inside_stands order n End w e = absurd (cc)
 inside_stands order n (Row id name None inside next) w e =
-    let own : Own = record { id = id; name = name; file = None; inside = arranged order (owns order inside) } in
+    let own : Own = record { id = id; name = name; file = None; inside = treap_of_entries order (owns order inside) } in
     elim (either_of (either (in_directory n (directory order inside)) (inside_rows order n inside)) (inside_rows order n next) w e) [
       | inl s ↦ elim (either_of (in_directory n (directory order inside)) (inside_rows order n inside) w s) [
         | inl a ↦ first_row n w own (owns order next) (directory_stands n (directory order inside) w a)
@@ -167,7 +167,7 @@ inside_stands order n (Row id name None inside next) w e =
       | inr s ↦ later_row n w own (owns order next) (inside_stands order n next w s)
     ]
 inside_stands order n (Row id name (Some f) inside next) w e =
-    let own : Own = record { id = id; name = name; file = Some f; inside = arranged order (owns order inside) } in
+    let own : Own = record { id = id; name = name; file = Some f; inside = treap_of_entries order (owns order inside) } in
     elim (either_of (in_file n id f) (inside_rows order n next) w e) [
       | inl s ↦ first_row n w own (owns order next) (file_stands n id f w s)
       | inr s ↦ later_row n w own (owns order next) (inside_stands order n next w s)

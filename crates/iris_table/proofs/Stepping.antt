@@ -5,12 +5,12 @@ use Rattle.std.proofs.lemmas.Bool.Decides.{nat_tests}
 use Rattle.iris_name.specs.declared.request.PlainError.{PlainError}
 use Rattle.iris_name.specs.declared.request.Request.{Request}
 use Rattle.iris_name.specs.declared.request.Reply.{Reply}
-use Rattle.iris_plain.specs.Checks.{on_names, is_dir, new_name}
+use Rattle.iris_plain.specs.Checks.{on_names, is_directory_seen, new_name}
 use Rattle.iris_plain.specs.declared.checks.Seen.{Seen}
 use Rattle.iris_plain.specs.Steps.{Judged, Accepted, PlainReplies, bytes_of}
-use Rattle.iris_table.specs.Rows.{File, End, Row, Table, Found, Here, Missing, Through, met, root}
-use Rattle.iris_table.specs.Changes.{by_names, stepped}
-use Rattle.iris_table.specs.View.{look, content, kind, view}
+use Rattle.iris_table.specs.Rows.{File, End, Row, Table, Found, Here, Missing, Through, met, root_row}
+use Rattle.iris_table.specs.Changes.{changed_by_names, stepped}
+use Rattle.iris_table.specs.View.{kind_below, content, kind_of, view}
 use Rattle.iris_table.specs.Sound.{AreGood, IsSound, IsCounted, OnFile}
 use Rattle.iris_table.specs.declared.item.Item.{Item}
 use Rattle.iris_table.specs.Items.{grown, kept_file, IsForest}
@@ -28,21 +28,21 @@ abbrev pub Path : Type 0
 Path = List (List ℕ)
 
 module _ (o : Option Path) (names : Path) (is : o ≡ Some names) (checks : Path → Option PlainError) where
-  pub next_err : (t : Table) (change : Path → Table) (e : PlainError) → checks names ≡ Some e → t ≡ cond (is_none (on_names o checks)) (by_names t o change) t
-  next_err t change e h = sym (ap (λ v. cond (is_none v) (by_names t o change) t) (ap (λ o. on_names o checks) is ∙ h))
+  pub next_err : (t : Table) (change : Path → Table) (e : PlainError) → checks names ≡ Some e → t ≡ cond (is_none (on_names o checks)) (changed_by_names t o change) t
+  next_err t change e h = sym (ap (λ v. cond (is_none v) (changed_by_names t o change) t) (ap (λ o. on_names o checks) is ∙ h))
 
-  pub next_ok : (t q : Table) (change : Path → Table) → checks names ≡ None → q ≡ change names → q ≡ cond (is_none (on_names o checks)) (by_names t o change) t
-  next_ok t q change h e = e ∙ sym (ap (λ o. by_names t o change) is) ∙ sym (ap (λ v. cond (is_none v) (by_names t o change) t) (ap (λ o. on_names o checks) is ∙ h))
+  pub next_ok : (t q : Table) (change : Path → Table) → checks names ≡ None → q ≡ change names → q ≡ cond (is_none (on_names o checks)) (changed_by_names t o change) t
+  next_ok t q change h e = e ∙ sym (ap (λ o. changed_by_names t o change) is) ∙ sym (ap (λ v. cond (is_none v) (changed_by_names t o change) t) (ap (λ o. on_names o checks) is ∙ h))
 
 -- a new name stands in a directory
-pub new_dir : (top full : Bool) (s m : Seen) → new_name top s m full ≡ None → is_dir s ≡ true
-new_dir top full s m e = ap is_dir (places s m top full e).1
+pub new_dir : (top full : Bool) (s m : Seen) → new_name top s m full ≡ None → is_directory_seen s ≡ true
+new_dir top full s m e = ap is_directory_seen (places s m top full e).1
 
 -- the file that is met is counted
 pub counted_met : (t : Table) (names : Path) (file : File) → IsSound t → file_met (met t names) ≡ Some file → IsCounted t.age file
 counted_met t names file s e = by (met t names) refl e where
   by : (found : Found) → met t names ≡ found → file_met found ≡ Some file → IsCounted t.age file
-  by (Here row) m e = subst (OnFile (IsCounted t.age)) e (all_here (IsCounted t.age) names (root t) row m tt s.counted).0
+  by (Here row) m e = subst (OnFile (IsCounted t.age)) e (all_here (IsCounted t.age) names (root_row t) row m tt s.counted).0
   by Missing m e = absurd (cc)
   by Through m e = absurd (cc)
 
@@ -50,9 +50,9 @@ pub counter_met : (t : Table) (names : Path) → IsSound t → (file : File) →
 counter_met t names s file e = let a = (counted_met t names file s e).counter in let b = s.age in omega (arith, a, b)
 
 -- the bytes of the file that is met
-pub bytes_met : (t : Table) (names : Path) (file : File) → file_met (met t names) ≡ Some file → bytes_of (look names (root t)) ≡ content file
-bytes_met t names file e = ap bytes_of (look_resolved names (root t)) ∙ by (met t names) e where
-  some : (f : Option File) → f ≡ Some file → bytes_of (Some (kind f)) ≡ content file
+pub bytes_met : (t : Table) (names : Path) (file : File) → file_met (met t names) ≡ Some file → bytes_of (kind_below names (root_row t)) ≡ content file
+bytes_met t names file e = ap bytes_of (look_resolved names (root_row t)) ∙ by (met t names) e where
+  some : (f : Option File) → f ≡ Some file → bytes_of (Some (kind_of f)) ≡ content file
   some None e = absurd (cc)
   some (Some f) e = let k : f ≡ file = cc in ap content k
 
@@ -61,9 +61,9 @@ bytes_met t names file e = ap bytes_of (look_resolved names (root t)) ∙ by (me
   by Missing e = absurd (cc)
   by Through e = absurd (cc)
 
-pub no_bytes_met : (t : Table) (names : Path) → file_met (met t names) ≡ None → bytes_of (look names (root t)) ≡ []
-no_bytes_met t names e = ap bytes_of (look_resolved names (root t)) ∙ by (met t names) e where
-  some : (f : Option File) → f ≡ None → bytes_of (Some (kind f)) ≡ []
+pub no_bytes_met : (t : Table) (names : Path) → file_met (met t names) ≡ None → bytes_of (kind_below names (root_row t)) ≡ []
+no_bytes_met t names e = ap bytes_of (look_resolved names (root_row t)) ∙ by (met t names) e where
+  some : (f : Option File) → f ≡ None → bytes_of (Some (kind_of f)) ≡ []
   some None e = refl
   some (Some f) e = absurd (cc)
 

@@ -9,13 +9,13 @@ use Rattle.iris_node.specs.Walk.{BlockAt, walk, file_blocks}
 use Rattle.iris_shape.specs.Order.{beside}
 use Rattle.iris_shape.specs.Treap.{Treap, Empty, Over, treap, rows}
 use Rattle.iris_shape.proofs.Treaps.{rows_treap}
-use Rattle.iris_table.specs.Ages.{Has, Stands}
+use Rattle.iris_table.specs.Ages.{Has, StandsInTable}
 use Rattle.iris_table.specs.Challenges.{table_walk}
 use Rattle.iris_table.specs.declared.item.Item.{Item}
 use Rattle.iris_table.specs.Items.{grown, kept_file, most_depth, IsForestTo, IsForest}
 use Rattle.iris_table.specs.Places.{Kept}
 use Rattle.iris_table.specs.Rows.{File, Rows, End, Row}
-use Rattle.iris_table.specs.Shown.{Own, own_id, entry, entries, arranged, owns, directory}
+use Rattle.iris_table.specs.Shown.{Own, own_id, entry_above, unfolded_entries, treap_of_entries, owns, directory}
 use Rattle.iris_table.specs.Stops.{table_over}
 use Rattle.iris_table.specs.Strides.{own_file, files_of, blocks_of_all}
 use Rattle.iris_table.proofs.Changing.{lt_true, lt_false, compared, row_of, grown_higher, grown_deeper, grown_here}
@@ -33,20 +33,20 @@ owns_joined : (a b : List Own) → owns_walk (a ++ b) ≡ owns_walk a ++ owns_wa
 owns_joined [] b = refl
 owns_joined (own ∷ a) b = ap (λ z. own_walk own.id own.file own.inside ++ z) (owns_joined a b) ∙ sym (append_assoc (own_walk own.id own.file own.inside) (owns_walk a) (owns_walk b))
 
-entry_walk : (own : Own) (file : Option File) (less more : Unfolded) → walk (entry own file less more) ≡ walk less ++ (own_walk own.id file own.inside ++ walk more)
+entry_walk : (own : Own) (file : Option File) (less more : Unfolded) → walk (entry_above own file less more) ≡ walk less ++ (own_walk own.id file own.inside ++ walk more)
 entry_walk own None less more = refl
 entry_walk own (Some f) less more = refl
 
 -- a treap is walked over in the order of its rows
-entries_walk : (t : Treap Own) → walk (entries t) ≡ owns_walk (rows t)
+entries_walk : (t : Treap Own) → walk (unfolded_entries t) ≡ owns_walk (rows t)
 entries_walk Empty = refl
 entries_walk (Over own less more) =
-    entry_walk own own.file (entries less) (entries more)
-    ∙ ap (λ z. z ++ (own_walk own.id own.file own.inside ++ walk (entries more))) (entries_walk less)
+    entry_walk own own.file (unfolded_entries less) (unfolded_entries more)
+    ∙ ap (λ z. z ++ (own_walk own.id own.file own.inside ++ walk (unfolded_entries more))) (entries_walk less)
     ∙ ap (λ z. owns_walk (rows less) ++ (own_walk own.id own.file own.inside ++ z)) (entries_walk more)
     ∙ sym (owns_joined (rows less) (own ∷ rows more))
 
-arranged_walk : (order : List ℕ) (xs : List Own) → walk (arranged order xs) ≡ owns_walk xs
+arranged_walk : (order : List ℕ) (xs : List Own) → walk (treap_of_entries order xs) ≡ owns_walk xs
 arranged_walk order xs = entries_walk (treap (beside (priority order) own_id) xs) ∙ ap owns_walk (rows_treap (beside (priority order) own_id) xs)
 
 -- the files among rows in preorder
@@ -131,11 +131,11 @@ pub walk_is : (order : List ℕ) (visible trash : List Item) (next age : ℕ) �
 unfolding table_walk directory
 walk_is order visible trash next age f g = ap (λ z. z ++ ([] ++ (walk (directory order (grown 0 trash)) ++ []))) (one visible f) ∙ ap (λ z. blocks_of_all (files_of visible) ++ z) (one trash g) ∙ sym (blocks_joined (files_of visible) (files_of trash)) where
   one : (items : List Item) → IsForest items → [] ++ (walk (directory order (grown 0 items)) ++ []) ≡ blocks_of_all (files_of items)
-  one items h = append-nil (walk (arranged order (owns order (grown 0 items)))) ∙ arranged_walk order (owns order (grown 0 items)) ∙ rows_walk order (grown 0 items) ∙ ap blocks_of_all (files_forest items h)
+  one items h = append-nil (walk (treap_of_entries order (owns order (grown 0 items)))) ∙ arranged_walk order (owns order (grown 0 items)) ∙ rows_walk order (grown 0 items) ∙ ap blocks_of_all (files_forest items h)
 
 -- a file that is walked over stands in the table
 pub file_stands : (visible trash : List Item) (next age : ℕ) (i : ℕ) (f : File) → IsForest visible → IsForest trash
-    → Contains (files_of visible ++ files_of trash) (i, f) → Stands i f (table_over visible trash next age)
+    → Contains (files_of visible ++ files_of trash) (i, f) → StandsInTable i f (table_over visible trash next age)
 file_stands visible trash next age i f a b c = elim (Contains-append_cases (files_of visible) (files_of trash) (i, f) c) [
   | inl h ↦ inl (has_file (grown 0 visible) i f (subst (λ z. Contains z (i, f)) (sym (files_forest visible a)) h))
   | inr h ↦ inr (has_file (grown 0 trash) i f (subst (λ z. Contains z (i, f)) (sym (files_forest trash b)) h))

@@ -14,8 +14,8 @@ use Rattle.iris_shape.specs.Treap.{Treap, Empty, Over, Each, Every, treap}
 use Rattle.iris_shape.proofs.Treaps.{every_treap}
 use Rattle.iris_table.specs.Rows.{File, Rows, End, Row, Table}
 use Rattle.iris_table.specs.Sameness.{SameWhereSaid}
-use Rattle.iris_shape.specs.Sides.{side}
-use Rattle.iris_table.specs.Shown.{Own, own_id, entry, entries, arranged, owns, directory, root_entry, trash_entry, shown}
+use Rattle.iris_shape.specs.Sides.{unfolded_side}
+use Rattle.iris_table.specs.Shown.{Own, own_id, entry_above, unfolded_entries, treap_of_entries, owns, directory, root_entry, trash_entry, shown}
 use Rattle.iris_table.specs.Sound.{IsSound}
 use Rattle.iris_table.proofs.Branching.{trees, trees_own, held_shown, seen_node, shown_stands}
 use Rattle.iris_table.proofs.Nesting.{Nest, Both, Holds, nest, inner}
@@ -40,7 +40,7 @@ IsEntries (Even v) = ⊥
 IsEntries (Split f l j low high) = ⊥
 IsEntries (Stored v bytes) = ⊥
 
-side_shape : (file level index : ℕ) (x : Fold) → IsSide file level index (side file level index x)
+side_shape : (file level index : ℕ) (x : Fold) → IsSide file level index (unfolded_side file level index x)
 side_shape file level index (One v) = tt
 side_shape file level index (Two x y) = (refl, refl, refl, side_shape file (level - 1) (2 * index) x, side_shape file (level - 1) (2 * index + 1) y)
 
@@ -51,15 +51,15 @@ InsideShape inside (Some f) = Unit {0}
 abbrev IsInside : Own → Type 0
 IsInside own = InsideShape own.inside own.file
 
-entry_shape : (o : Own) (file : Option File) (less more : Unfolded) → InsideShape o.inside file → IsEntries less → IsEntries more → IsEntries (entry o file less more)
+entry_shape : (o : Own) (file : Option File) (less more : Unfolded) → InsideShape o.inside file → IsEntries less → IsEntries more → IsEntries (entry_above o file less more)
 entry_shape o None less more s a b = (a, b, s)
 entry_shape o (Some f) less more s a b = (a, b, side_shape o.id 16 0 (folded f.version 16 0))
 
-entries_shape : (t : Treap Own) → Every IsInside t → IsEntries (entries t)
+entries_shape : (t : Treap Own) → Every IsInside t → IsEntries (unfolded_entries t)
 entries_shape Empty e = tt
-entries_shape (Over o l m) e = entry_shape o o.file (entries l) (entries m) e.0 (entries_shape l e.1) (entries_shape m e.2)
+entries_shape (Over o l m) e = entry_shape o o.file (unfolded_entries l) (unfolded_entries m) e.0 (entries_shape l e.1) (entries_shape m e.2)
 
-arranged_shape : (order : List ℕ) (os : List Own) → Each IsInside os → IsEntries (arranged order os)
+arranged_shape : (order : List ℕ) (os : List Own) → Each IsInside os → IsEntries (treap_of_entries order os)
 arranged_shape order os e = entries_shape (treap (beside (priority order) own_id) os) (every_treap IsInside (beside (priority order) own_id) os e)
 
 owns_shape : (order : List ℕ) (rows : Rows) → Each IsInside (owns order rows)

@@ -9,9 +9,9 @@ use Rattle.iris_name.specs.Paths.{names_of, slashed_names, is_name}
 use Rattle.iris_name.specs.declared.request.Request.{Request}
 use Rattle.iris_name.specs.declared.request.Request.TheVariants.{Mkdir, Create, Write, Read, Resize, Stat, List as ListNames, Rename, Remove, Sync, Root, Reclaim, Probe}
 use Rattle.iris_plain.specs.Checks.{blocks_of, size_of}
-use Rattle.iris_plain.specs.Routes.{before, parent, last}
-use Rattle.iris_table.specs.Changes.{written, cut, freed, filled, hex_digit, hex_digits, trash_name, gone, made, filed, removed, moved, emptied, retrashed, reclaimed, by_names, seen_in, changed, table_verdict}
-use Rattle.iris_table.specs.Rows.{File, Rows, End, Row, Table, Taken, find, put, without, at, file_at, on_file, Found, Here, Missing, Through, resolved, followed, entered, met, root, empty_file}
+use Rattle.iris_plain.specs.Routes.{is_name_before, parent, last}
+use Rattle.iris_table.specs.Changes.{file_written, cut, freed, count_written, hex_digit, hex_digits, trash_name, gone, made, filed, removed, row_moved, emptied, retrashed, reclaimed, changed_by_names, seen_in, accepted_change, table_verdict}
+use Rattle.iris_table.specs.Rows.{File, Rows, End, Row, Table, Taken, find, with_row, without_row, at, file_at, on_file, Found, Here, Missing, Through, resolved, followed, entered, met, root_row, empty_file}
 use Rattle.iris_table.specs.Texts.{AreTexts, HasTexts}
 use Rattle.iris_table.specs.TextsStay.{IsOfTexts, TextsBegin, TextsStay}
 
@@ -121,17 +121,17 @@ trash_text id = IsUtf8-from_ascii (trash_name id) (small_ascii (trash_name id) (
 
 -- changes of rows
 
-put_texts : (n : List ℕ) (row : Taken) (rows : Rows) → IsUtf8 n → AreTexts row.inside → AreTexts rows → AreTexts (put n row rows)
+put_texts : (n : List ℕ) (row : Taken) (rows : Rows) → IsUtf8 n → AreTexts row.inside → AreTexts rows → AreTexts (with_row n row rows)
 put_texts n row End u i h = (u, i, tt)
-put_texts n row (Row id name file inside next) u i h = by (before n name) (put_texts n row next u i h.2) where
-  by : (b : Bool) → AreTexts (put n row next) → AreTexts (cond b (Row row.id n row.file row.inside (Row id name file inside next)) (Row id name file inside (put n row next)))
+put_texts n row (Row id name file inside next) u i h = by (is_name_before n name) (put_texts n row next u i h.2) where
+  by : (b : Bool) → AreTexts (with_row n row next) → AreTexts (cond b (Row row.id n row.file row.inside (Row id name file inside next)) (Row id name file inside (with_row n row next)))
   by true k = (u, i, h)
   by false k = (h.0, h.1, k)
 
-without_texts : (n : List ℕ) (rows : Rows) → AreTexts rows → AreTexts (without n rows)
+without_texts : (n : List ℕ) (rows : Rows) → AreTexts rows → AreTexts (without_row n rows)
 without_texts n End h = tt
 without_texts n (Row id name file inside next) h = by (bytes_eq n name) (without_texts n next h.2) where
-  by : (b : Bool) → AreTexts (without n next) → AreTexts (cond b next (Row id name file inside (without n next)))
+  by : (b : Bool) → AreTexts (without_row n next) → AreTexts (cond b next (Row id name file inside (without_row n next)))
   by true k = h.2
   by false k = (h.0, h.1, k)
 
@@ -170,7 +170,7 @@ resolved_texts (n ∷ ns) from row h e = by from.file (find n from.inside) refl 
 
 made_texts : (t : Table) (file : Option File) (names : List (List ℕ)) → HasTexts t → AllTexts names → HasTexts (made file names t)
 made_texts t file names h a = (
-  at_texts (parent names) (put (last names) (record { id = t.next; file = file; inside = End })) t.visible
+  at_texts (parent names) (with_row (last names) (record { id = t.next; file = file; inside = End })) t.visible
       (λ rows k. put_texts (last names) (record { id = t.next; file = file; inside = End }) rows (last_text names a) tt k) h.0,
   h.1,
 )
@@ -179,24 +179,24 @@ filed_texts : (t : Table) (change : File → File) (names : List (List ℕ)) →
 filed_texts t change names h = (at_texts (parent names) (file_at (last names) change) t.visible (λ rows k. file_at_texts (last names) change rows k) h.0, h.1)
 
 gone_texts : (t : Table) (names : List (List ℕ)) → HasTexts t → AreTexts (gone names t)
-gone_texts t names h = at_texts (parent names) (without (last names)) t.visible (λ rows k. without_texts (last names) rows k) h.0
+gone_texts t names h = at_texts (parent names) (without_row (last names)) t.visible (λ rows k. without_texts (last names) rows k) h.0
 
 removed_texts : (t : Table) (names : List (List ℕ)) → HasTexts t → (f : Found) → met t names ≡ f → HasTexts (removed names t f)
-removed_texts t names h (Here row) e = (gone_texts t names h, put_texts (trash_name row.id) row t.trash (trash_text row.id) (resolved_texts names (root t) row h.0 e) h.1)
+removed_texts t names h (Here row) e = (gone_texts t names h, put_texts (trash_name row.id) row t.trash (trash_text row.id) (resolved_texts names (root_row t) row h.0 e) h.1)
 removed_texts t names h Missing e = h
 removed_texts t names h Through e = h
 
-moved_texts : (t : Table) (olds news : List (List ℕ)) → HasTexts t → AllTexts news → (f : Found) → met t olds ≡ f → HasTexts (moved olds news t f)
+moved_texts : (t : Table) (olds news : List (List ℕ)) → HasTexts t → AllTexts news → (f : Found) → met t olds ≡ f → HasTexts (row_moved olds news t f)
 moved_texts t olds news h a (Here row) e =
-    (at_texts (parent news) (put (last news) row) (gone olds t) (λ rows k. put_texts (last news) row rows (last_text news a) (resolved_texts olds (root t) row h.0 e) k) (gone_texts t olds h), h.1)
+    (at_texts (parent news) (with_row (last news) row) (gone olds t) (λ rows k. put_texts (last news) row rows (last_text news a) (resolved_texts olds (root_row t) row h.0 e) k) (gone_texts t olds h), h.1)
 moved_texts t olds news h a Missing e = h
 moved_texts t olds news h a Through e = h
 
 emptied_texts : (t : Table) (names : List (List ℕ)) → HasTexts t → AllTexts names → (f : Found) → met t names ≡ f → HasTexts (emptied names t f)
 emptied_texts t names h a (Here row) e = (
-  at_texts (parent names) (put (last names) (record { id = t.next; file = Some empty_file; inside = End })) (gone names t)
+  at_texts (parent names) (with_row (last names) (record { id = t.next; file = Some empty_file; inside = End })) (gone names t)
       (λ rows k. put_texts (last names) (record { id = t.next; file = Some empty_file; inside = End }) rows (last_text names a) tt k) (gone_texts t names h),
-  put_texts (trash_name row.id) row t.trash (trash_text row.id) (resolved_texts names (root t) row h.0 e) h.1,
+  put_texts (trash_name row.id) row t.trash (trash_text row.id) (resolved_texts names (root_row t) row h.0 e) h.1,
 )
 emptied_texts t names h a Missing e = h
 emptied_texts t names h a Through e = h
@@ -206,24 +206,24 @@ reclaimed_texts t End h k = h
 reclaimed_texts t (Row id name None End next) h k = (h.0, k.2)
 reclaimed_texts t (Row id name None (Row i n file inside others) next) h k =
     (h.0, put_texts (trash_name i) (record { id = i; file = file; inside = inside }) (Row id name None others next) (trash_text i) k.1.1 (k.0, k.1.2, k.2))
-reclaimed_texts t (Row id name (Some file) inside next) h k = by (filled file.version (blocks_of file.size) == 0) where
+reclaimed_texts t (Row id name (Some file) inside next) h k = by (count_written file.version (blocks_of file.size) == 0) where
   by : (b : Bool) → HasTexts (cond b (retrashed next t) (retrashed (Row id name (Some (freed file)) inside next) t))
   by true = (h.0, k.2)
   by false = (h.0, k)
 
-by_texts : (t : Table) (text : List ℕ) (change : List (List ℕ) → Table) → HasTexts t → IsUtf8 text → ((names : List (List ℕ)) → AllTexts names → HasTexts (change names)) → HasTexts (by_names t (names_of text) change)
+by_texts : (t : Table) (text : List ℕ) (change : List (List ℕ) → Table) → HasTexts t → IsUtf8 text → ((names : List (List ℕ)) → AllTexts names → HasTexts (change names)) → HasTexts (changed_by_names t (names_of text) change)
 by_texts t text change h u k = by (names_of text) refl where
-  by : (o : Option (List (List ℕ))) → names_of text ≡ o → HasTexts (by_names t o change)
+  by : (o : Option (List (List ℕ))) → names_of text ≡ o → HasTexts (changed_by_names t o change)
   by None e = h
   by (Some names) e = k names (names_texts text names u e)
 
-changed_texts : (t : Table) (r : Request) → HasTexts t → IsOfTexts r → HasTexts (changed t r)
+changed_texts : (t : Table) (r : Request) → HasTexts t → IsOfTexts r → HasTexts (accepted_change t r)
 changed_texts t (Mkdir path) h u = by_texts t path (λ names. made None names t) h u (λ names a. made_texts t None names h a)
 changed_texts t (Create path) h u = by_texts t path (λ names. made (Some empty_file) names t) h u (λ names a. made_texts t (Some empty_file) names h a)
-changed_texts t (Write path offset bytes) h u = by_texts t path (λ names. cond (length bytes == 0) t (filed (written offset bytes) names t)) h u (λ names a. by names (length bytes == 0)) where
-  by : (names : List (List ℕ)) (b : Bool) → HasTexts (cond b t (filed (written offset bytes) names t))
+changed_texts t (Write path offset bytes) h u = by_texts t path (λ names. cond (length bytes == 0) t (filed (file_written offset bytes) names t)) h u (λ names a. by names (length bytes == 0)) where
+  by : (names : List (List ℕ)) (b : Bool) → HasTexts (cond b t (filed (file_written offset bytes) names t))
   by names true = h
-  by names false = filed_texts t (written offset bytes) names h
+  by names false = filed_texts t (file_written offset bytes) names h
 changed_texts t (Read path offset count) h u = h
 changed_texts t (Resize path size) h u =
     by_texts t path (λ names. cond (size == size_of (seen_in t names)) t (cond (size == 0) (emptied names t (met t names)) (filed (cut size) names t))) h u (λ names a. by names a (size == size_of (seen_in t names)) (size == 0)) where
@@ -234,7 +234,7 @@ changed_texts t (Resize path size) h u =
 changed_texts t (Stat path) h u = h
 changed_texts t (ListNames path after) h u = h
 changed_texts t (Rename from to) h u =
-    by_texts t from (λ olds. by_names t (names_of to) (λ news. moved olds news t (met t olds))) h u.0 (λ olds a. by_texts t to (λ news. moved olds news t (met t olds)) h u.1 (λ news b. moved_texts t olds news h b (met t olds) refl))
+    by_texts t from (λ olds. changed_by_names t (names_of to) (λ news. row_moved olds news t (met t olds))) h u.0 (λ olds a. by_texts t to (λ news. row_moved olds news t (met t olds)) h u.1 (λ news b. moved_texts t olds news h b (met t olds) refl))
 changed_texts t (Remove path) h u = by_texts t path (λ names. removed names t (met t names)) h u (λ names a. removed_texts t names h (met t names) refl)
 changed_texts t Sync h u = h
 changed_texts t Root h u = h
@@ -246,6 +246,6 @@ texts_begin = (tt, tt)
 
 pub texts_stay : TextsStay
 texts_stay t r h u = by (is_none (table_verdict t r)) where
-  by : (b : Bool) → HasTexts (cond b (changed t r) t)
+  by : (b : Bool) → HasTexts (cond b (accepted_change t r) t)
   by true = changed_texts t r h u
   by false = h

@@ -6,7 +6,7 @@ use Rattle.iris_plain.specs.declared.checks.Seen.TheVariants.{ADirectory, AFile,
 use Rattle.iris_plain.specs.declared.files.Kind.{Kind}
 use Rattle.iris_plain.specs.declared.files.Kind.TheVariants.{Dir, Bytes}
 use Rattle.iris_table.specs.Rows.{Found, Here, Missing, Through}
-use Rattle.iris_table.specs.View.{kind}
+use Rattle.iris_table.specs.View.{kind_of}
 
 -- what resolving meets
 pub data Reached : Type 0 where
@@ -28,7 +28,7 @@ walk p [] = top (p [])
 walk p (n ∷ ns) = through (p []) (walk (λ q. p (n ∷ q)) ns)
 
 abbrev pub reached : Found → Reached
-reached (Here row) = At (kind row.file)
+reached (Here row) = At (kind_of row.file)
 reached Missing = NotThere
 reached Through = Past
 

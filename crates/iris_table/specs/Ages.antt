@@ -11,8 +11,8 @@ Has i f End = ⊥
 Has i f (Row id name file inside next) = ((i ≡ id) × (file ≡ Some f)) ⊎ (Has i f inside ⊎ Has i f next)
 
 -- it stands in the table, in the trash or not
-abbrev pub Stands : ℕ → File → Table → Type 0
-Stands i f t = Has i f t.visible ⊎ Has i f t.trash
+abbrev pub StandsInTable : ℕ → File → Table → Type 0
+StandsInTable i f t = Has i f t.visible ⊎ Has i f t.trash
 
 -- a place is as it was, or a hole, or has a version above the old counter
 abbrev pub IsLaterPlace : File → File → ℕ → Type 0
@@ -26,19 +26,19 @@ pub record IsLater (old new : File) : Type 0 where
 -- a step makes files later, and never gives an id again
 pub record Ages (old new : Table) : Type 0 where
   pub next : old.next ≤ new.next
-  pub files : (i : ℕ) (f g : File) → Stands i f old → Stands i g new → IsLater f g
-  pub fresh : (i : ℕ) (g : File) → Stands i g new → old.next ≤ i ⊎ ((f : File) × Stands i f old)
+  pub files : (i : ℕ) (f g : File) → StandsInTable i f old → StandsInTable i g new → IsLater f g
+  pub fresh : (i : ℕ) (g : File) → StandsInTable i g new → old.next ≤ i ⊎ ((f : File) × StandsInTable i f old)
 
 -- the table after requests, one after another
-abbrev pub after : Table → List Request → Table
-after t [] = t
-after t (request ∷ requests) = after (stepped t request) requests
+abbrev pub after_requests : Table → List Request → Table
+after_requests t [] = t
+after_requests t (request ∷ requests) = after_requests (stepped t request) requests
 
 -- requests from a sound table age it
 abbrev pub RequestsAge : Type 0
-RequestsAge = (t : Table) (requests : List Request) → IsSound t → Ages t (after t requests)
+RequestsAge = (t : Table) (requests : List Request) → IsSound t → Ages t (after_requests t requests)
 
 -- a file, a place and a version above 0 stand for one block, whatever requests come between
 abbrev pub StandsForOneBlock : Type 0
-StandsForOneBlock = (t : Table) (requests : List Request) (i : ℕ) (f g : File) (p : ℕ) → IsSound t → Stands i f t → Stands i g (after t requests)
+StandsForOneBlock = (t : Table) (requests : List Request) (i : ℕ) (f g : File) (p : ℕ) → IsSound t → StandsInTable i f t → StandsInTable i g (after_requests t requests)
     → f.version p ≡ g.version p → 0 < g.version p → f.block p ≡ g.block p

@@ -5,7 +5,7 @@ use Rattle.iris_name.specs.declared.request.Reply.{Reply}
 use Rattle.iris_name.specs.declared.request.Reply.TheVariants.{Probed, Plain}
 use Rattle.iris_node.specs.Unfolded.{id_of}
 use Rattle.iris_node.specs.Walk.{BlockAt, walk}
-use Rattle.iris_table.specs.Ages.{Stands}
+use Rattle.iris_table.specs.Ages.{StandsInTable}
 use Rattle.iris_table.specs.Rows.{File, Table}
 use Rattle.iris_table.specs.Shown.{root_entry, trash_entry}
 
@@ -16,4 +16,4 @@ table_walk order t = walk (root_entry order t) ++ walk (trash_entry order t)
 -- the reply to a challenge: the block that stands there, with the version of its place in its file, or that none is found
 abbrev pub IsProbed : Table → Option BlockAt → Reply → Type 0
 IsProbed t None reply = reply ≡ Plain NotFound
-IsProbed t (Some b) reply = (f : File) × Stands b.file f t × (reply ≡ Probed (id_of b.file) b.place (f.version b.place))
+IsProbed t (Some b) reply = (f : File) × StandsInTable b.file f t × (reply ≡ Probed (id_of b.file) b.place (f.version b.place))

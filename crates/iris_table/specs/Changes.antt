@@ -8,7 +8,7 @@ use Rattle.iris_plain.specs.Routes.{parent, last}
 use Rattle.iris_plain.specs.Checks.{blocks_of, verdict, is_full, size_of}
 use Rattle.iris_plain.specs.declared.checks.Seen.{Seen}
 use Rattle.iris_plain.specs.declared.checks.Seen.TheVariants.{ADirectory, AFile, Nothing, AFileBefore}
-use Rattle.iris_table.specs.Rows.{File, Rows, End, Row, Table, Taken, put, without, at, file_at, Found, Here, Missing, Through, met, zeros, empty_file}
+use Rattle.iris_table.specs.Rows.{File, Rows, End, Row, Table, Taken, with_row, without_row, at, file_at, Found, Here, Missing, Through, met, zeros, empty_file}
 
 -- the block of a place with bytes over it that begin at an offset of the file
 abbrev pub merged : ℕ → List ℕ → ℕ → List ℕ → List ℕ
@@ -20,8 +20,8 @@ abbrev pub is_touched : ℕ → ℕ → ℕ → Bool
 is_touched offset count p = nat_le (offset / 4096) p && nat_le p ((offset + count - 1) / 4096)
 
 -- a file after a write: every place that it touches gets the new number
-abbrev pub written : ℕ → List ℕ → File → File
-written offset bytes file = record {
+abbrev pub file_written : ℕ → List ℕ → File → File
+file_written offset bytes file = record {
   size = if nat_lt file.size (offset + length bytes) then offset + length bytes else file.size;
   counter = file.counter + 1;
   version = λ p. if is_touched offset (length bytes) p then file.counter + 1 else file.version p;
@@ -42,17 +42,17 @@ cut size file = record {
 }
 
 -- how many places before this one are no holes
-abbrev pub filled : (ℕ → ℕ) → ℕ → ℕ
-filled version zero = 0
-filled version (suc p) = if version p == 0 then filled version p else filled version p + 1
+abbrev pub count_written : (ℕ → ℕ) → ℕ → ℕ
+count_written version zero = 0
+count_written version (suc p) = if version p == 0 then count_written version p else count_written version p + 1
 
 -- a file whose first 16 places that are no holes become holes
 abbrev pub freed : File → File
 freed file = record {
   size = file.size;
   counter = file.counter;
-  version = λ p. if nat_lt (filled file.version p) 16 then 0 else file.version p;
-  block = λ p. if nat_lt (filled file.version p) 16 then zeros else file.block p;
+  version = λ p. if nat_lt (count_written file.version p) 16 then 0 else file.version p;
+  block = λ p. if nat_lt (count_written file.version p) 16 then zeros else file.block p;
 }
 
 -- the digit of a number below 16
@@ -75,7 +75,7 @@ older rows t = record { visible = rows; trash = t.trash; hand = t.hand; next = t
 -- a new file or directory at a path
 abbrev pub made : Option File → List (List ℕ) → Table → Table
 made file names t = record {
-  visible = at (parent names) (put (last names) (record { id = t.next; file = file; inside = End })) t.visible;
+  visible = at (parent names) (with_row (last names) (record { id = t.next; file = file; inside = End })) t.visible;
   trash = t.trash;
   hand = t.hand;
   next = t.next + 1;
@@ -88,11 +88,11 @@ filed change names t = older (at (parent names) (file_at (last names) change) t.
 
 -- the visible rows without those at and below a path
 abbrev pub gone : List (List ℕ) → Table → Rows
-gone names t = at (parent names) (without (last names)) t.visible
+gone names t = at (parent names) (without_row (last names)) t.visible
 
 -- the trash with a row under its own name
 abbrev pub thrown : Taken → Rows → Rows
-thrown row trash = put (trash_name row.id) row trash
+thrown row trash = with_row (trash_name row.id) row trash
 
 -- the row at a path moves into the trash
 abbrev pub removed : List (List ℕ) → Table → Found → Table
@@ -101,15 +101,15 @@ removed names t Missing = t
 removed names t Through = t
 
 -- the row at a path moves to another
-abbrev pub moved : List (List ℕ) → List (List ℕ) → Table → Found → Table
-moved olds news t (Here row) = older (at (parent news) (put (last news) row) (gone olds t)) t
-moved olds news t Missing = t
-moved olds news t Through = t
+abbrev pub row_moved : List (List ℕ) → List (List ℕ) → Table → Found → Table
+row_moved olds news t (Here row) = older (at (parent news) (with_row (last news) row) (gone olds t)) t
+row_moved olds news t Missing = t
+row_moved olds news t Through = t
 
 -- the row at a path moves into the trash, and a new empty file stands at the path
 abbrev pub emptied : List (List ℕ) → Table → Found → Table
 emptied names t (Here row) = record {
-  visible = at (parent names) (put (last names) (record { id = t.next; file = Some empty_file; inside = End })) (gone names t);
+  visible = at (parent names) (with_row (last names) (record { id = t.next; file = Some empty_file; inside = End })) (gone names t);
   trash = thrown row t.trash;
   hand = t.hand;
   next = t.next + 1;
@@ -129,12 +129,12 @@ reclaimed t (Row id name None End next) = retrashed next t
 reclaimed t (Row id name None (Row i n file inside others) next) =
     retrashed (thrown (record { id = i; file = file; inside = inside }) (Row id name None others next)) t
 reclaimed t (Row id name (Some file) inside next) =
-    if filled file.version (blocks_of file.size) == 0 then retrashed next t else retrashed (Row id name (Some (freed file)) inside next) t
+    if count_written file.version (blocks_of file.size) == 0 then retrashed next t else retrashed (Row id name (Some (freed file)) inside next) t
 
 -- a change by the names of a path, none where there are none
-abbrev pub by_names : Table → Option (List (List ℕ)) → (List (List ℕ) → Table) → Table
-by_names t None change = t
-by_names t (Some names) change = change names
+abbrev pub changed_by_names : Table → Option (List (List ℕ)) → (List (List ℕ) → Table) → Table
+changed_by_names t None change = t
+changed_by_names t (Some names) change = change names
 
 -- what a row is seen as
 abbrev pub seen_file : Option File → Seen
@@ -152,21 +152,21 @@ abbrev pub seen_in : Table → List (List ℕ) → Seen
 seen_in t names = seen_row (met t names)
 
 -- what an accepted request changes
-abbrev pub changed : Table → Request → Table
-changed t (Mkdir path) = by_names t (names_of path) (λ names. made None names t)
-changed t (Create path) = by_names t (names_of path) (λ names. made (Some empty_file) names t)
-changed t (Write path offset bytes) = by_names t (names_of path) (λ names. if length bytes == 0 then t else filed (written offset bytes) names t)
-changed t (Read path offset count) = t
-changed t (Resize path size) = by_names t (names_of path) (λ names.
+abbrev pub accepted_change : Table → Request → Table
+accepted_change t (Mkdir path) = changed_by_names t (names_of path) (λ names. made None names t)
+accepted_change t (Create path) = changed_by_names t (names_of path) (λ names. made (Some empty_file) names t)
+accepted_change t (Write path offset bytes) = changed_by_names t (names_of path) (λ names. if length bytes == 0 then t else filed (file_written offset bytes) names t)
+accepted_change t (Read path offset count) = t
+accepted_change t (Resize path size) = changed_by_names t (names_of path) (λ names.
     if size == size_of (seen_in t names) then t else if size == 0 then emptied names t (met t names) else filed (cut size) names t)
-changed t (Stat path) = t
-changed t (ListNames path after) = t
-changed t (Rename from to) = by_names t (names_of from) (λ olds. by_names t (names_of to) (λ news. moved olds news t (met t olds)))
-changed t (Remove path) = by_names t (names_of path) (λ names. removed names t (met t names))
-changed t Sync = t
-changed t Root = t
-changed t Reclaim = reclaimed t t.trash
-changed t (Probe at) = t
+accepted_change t (Stat path) = t
+accepted_change t (ListNames path after) = t
+accepted_change t (Rename from to) = changed_by_names t (names_of from) (λ olds. changed_by_names t (names_of to) (λ news. row_moved olds news t (met t olds)))
+accepted_change t (Remove path) = changed_by_names t (names_of path) (λ names. removed names t (met t names))
+accepted_change t Sync = t
+accepted_change t Root = t
+accepted_change t Reclaim = reclaimed t t.trash
+accepted_change t (Probe at) = t
 
 -- the first check that applies to a request
 abbrev pub table_verdict : Table → Request → Option PlainError
@@ -174,4 +174,4 @@ table_verdict t request = verdict (seen_in t) (is_full t.age) request
 
 -- the next table: a plain error changes nothing
 abbrev pub stepped : Table → Request → Table
-stepped t request = if is_none (table_verdict t request) then changed t request else t
+stepped t request = if is_none (table_verdict t request) then accepted_change t request else t

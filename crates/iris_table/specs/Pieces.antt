@@ -11,9 +11,9 @@ use Rattle.iris_shape.specs.Local.{either}
 use Rattle.iris_shape.specs.Folds.{Fold, One, Two}
 use Rattle.iris_table.specs.declared.records.Told.{Told}
 use Rattle.iris_table.specs.declared.file.Place.{Place}
-use Rattle.iris_table.specs.Places.{block_in}
+use Rattle.iris_table.specs.Places.{page_block}
 use Rattle.iris_table.specs.Rows.{File}
-use Rattle.iris_table.specs.Shown.{versions, block_in as block_at_place}
+use Rattle.iris_table.specs.Shown.{versions, block_of_place as block_at_place}
 use Rattle.iris_table.specs.Records.{Records, looked, spelled, comes_before}
 
 -- how many records stand before a name
@@ -21,28 +21,28 @@ abbrev pub lesser : Name → Records → ℕ
 lesser n [] = 0
 lesser n (r ∷ records) = if comes_before r.0 n then suc (lesser n records) else 0
 
-abbrev pub is_named : Name → Option (Name × List ℕ) → Bool
-is_named n None = false
-is_named n (Some r) = same_name r.0 n
+abbrev pub is_record_of : Name → Option (Name × List ℕ) → Bool
+is_record_of n None = false
+is_record_of n (Some r) = same_name r.0 n
 
 -- the record at a place has this name
 abbrev pub is_next : ℕ → Name → Records → Bool
-is_next at n records = is_named n (slice_get records at)
+is_next at n records = is_record_of n (slice_get records at)
 
 -- records with those of what names stand for besides, over what stood there
 abbrev pub Adds : List ℕ → (Name → Option Unfolded) → Records → Records → Type 0
 Adds key stands old new = (n : Name) → looked n new ≡ either (option_map (spelled key n) (stands n)) (looked n old)
 
 -- two folds that aren't one version
-abbrev pub AreApart : Fold → Fold → Type 0
-AreApart (One v) (One w) = v ≢ w
-AreApart (One v) (Two x y) = Unit {0}
-AreApart (Two x y) other = Unit {0}
+abbrev pub AreUnequalFolds : Fold → Fold → Type 0
+AreUnequalFolds (One v) (One w) = v ≢ w
+AreUnequalFolds (One v) (Two x y) = Unit {0}
+AreUnequalFolds (Two x y) other = Unit {0}
 
 -- a fold that goes down no further than places, and whose halves differ
 abbrev pub IsHalved : ℕ → Fold → Type 0
 IsHalved level (One version) = Unit {0}
-IsHalved level (Two low high) = (1 ≤ level) × AreApart low high × IsHalved (level - 1) low × IsHalved (level - 1) high
+IsHalved level (Two low high) = (1 ≤ level) × AreUnequalFolds low high × IsHalved (level - 1) low × IsHalved (level - 1) high
 
 -- the block of a kept place, none where it is a hole
 abbrev pub kept_block : Place → Option Unfolded

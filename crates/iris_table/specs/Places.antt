@@ -31,23 +31,23 @@ pub record IsKept (f : Kept) : Type 0 where
   pub holes : ArePlaces f.places
 
 -- the version of a place; past the last it is 0
-abbrev pub version_of : Option Place → ℕ
-version_of None = 0
-version_of (Some place) = place.version
+abbrev pub place_version : Option Place → ℕ
+place_version None = 0
+place_version (Some place) = place.version
 
 -- the block of a page, zeros where there is none
-abbrev pub block_in : Option (List ℕ) → List ℕ
-block_in None = zeros
-block_in (Some page) = page
+abbrev pub page_block : Option (List ℕ) → List ℕ
+page_block None = zeros
+page_block (Some page) = page
 
 -- the block of a place; past the last it is zeros
 abbrev pub block_of : Option Place → List ℕ
 block_of None = zeros
-block_of (Some place) = block_in place.page
+block_of (Some place) = page_block place.page
 
 -- the version of a place of a list
 abbrev pub version_at : List Place → ℕ → ℕ
-version_at places p = version_of (slice_get places p)
+version_at places p = place_version (slice_get places p)
 
 -- the block of a place of a list
 abbrev pub block_at : List Place → ℕ → List ℕ

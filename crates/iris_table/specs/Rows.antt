@@ -1,7 +1,7 @@
 -- The table: the rows of each directory in order of names, the trash, a row in hand, the next id and the age.
 use Rattle.std.specs.Prelude.{ℕ, List, [], ◌∷◌, replicate, Option, Some, None, if◌then◌else◌}
 use Rattle.std.specs.Str.{bytes_eq}
-use Rattle.iris_plain.specs.Routes.{before}
+use Rattle.iris_plain.specs.Routes.{is_name_before}
 
 -- a file: its length, its counter of writes, and the version and the block of each place
 pub record File : Type 0 where
@@ -34,8 +34,8 @@ pub record Taken : Type 0 where
   pub inside : Rows
 
 -- the visible root as a row
-abbrev pub root : Table → Taken
-root t = record { id = 0; file = None; inside = t.visible }
+abbrev pub root_row : Table → Taken
+root_row t = record { id = 0; file = None; inside = t.visible }
 
 -- the row of a name
 abbrev pub find : List ℕ → Rows → Option Taken
@@ -43,15 +43,15 @@ find n End = None
 find n (Row id name file inside next) = if bytes_eq n name then Some (record { id = id; file = file; inside = inside }) else find n next
 
 -- the rows with one more, before the first whose name is greater
-abbrev pub put : List ℕ → Taken → Rows → Rows
-put n row End = Row row.id n row.file row.inside End
-put n row (Row id name file inside next) =
-    if before n name then Row row.id n row.file row.inside (Row id name file inside next) else Row id name file inside (put n row next)
+abbrev pub with_row : List ℕ → Taken → Rows → Rows
+with_row n row End = Row row.id n row.file row.inside End
+with_row n row (Row id name file inside next) =
+    if is_name_before n name then Row row.id n row.file row.inside (Row id name file inside next) else Row id name file inside (with_row n row next)
 
 -- the rows without that of a name
-abbrev pub without : List ℕ → Rows → Rows
-without n End = End
-without n (Row id name file inside next) = if bytes_eq n name then next else Row id name file inside (without n next)
+abbrev pub without_row : List ℕ → Rows → Rows
+without_row n End = End
+without_row n (Row id name file inside next) = if bytes_eq n name then next else Row id name file inside (without_row n next)
 
 -- the rows with those of the directory at a path changed
 abbrev pub at : List (List ℕ) → (Rows → Rows) → Rows → Rows
@@ -94,7 +94,7 @@ resolved (n ∷ ns) row = entered row.file (followed (find n row.inside) (λ bel
 
 -- what resolving a path meets in the table
 abbrev pub met : Table → List (List ℕ) → Found
-met t names = resolved names (root t)
+met t names = resolved names (root_row t)
 
 -- a block of zeros
 unfoldable pub zeros : List ℕ

@@ -37,9 +37,9 @@ pub record Served : Type 0 where
   pub age : ℕ
 
 -- what is held without the keys
-abbrev pub state_of : Served → State
-state_of s = record { visible = s.visible; trash = s.trash; next = s.next; age = s.age }
+abbrev pub served_state : Served → State
+served_state s = record { visible = s.visible; trash = s.trash; next = s.next; age = s.age }
 
 -- the table that is served
-abbrev pub table_of : Served → Table
-table_of s = table_in (state_of s)
+abbrev pub served_table : Served → Table
+served_table s = table_in (served_state s)

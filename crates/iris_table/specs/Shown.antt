@@ -8,7 +8,7 @@ use Rattle.iris_node.specs.Unfolded.{Unfolded, Absent, Folder, Leaf, Even, Split
 use Rattle.iris_shape.specs.Folds.{folded}
 use Rattle.iris_shape.specs.Treap.{Treap, Empty, Over, treap}
 use Rattle.iris_shape.specs.Order.{beside}
-use Rattle.iris_shape.specs.Sides.{side}
+use Rattle.iris_shape.specs.Sides.{unfolded_side}
 use Rattle.iris_shape.specs.Local.{either}
 use Rattle.iris_table.specs.Rows.{File, Rows, End, Row, Table}
 
@@ -24,30 +24,30 @@ own_id own = own.id
 
 -- the side of all versions of a file
 abbrev pub versions : ℕ → File → Unfolded
-versions id f = side id most_level 0 (folded f.version most_level 0)
+versions id f = unfolded_side id most_level 0 (folded f.version most_level 0)
 
 -- an entry above the entries of lesser and of greater names
-abbrev pub entry : Own → Option File → Unfolded → Unfolded → Unfolded
-entry own None less more = Folder own.id own.name less more own.inside
-entry own (Some f) less more = Leaf own.id own.name less more f.size f.counter (versions own.id f)
+abbrev pub entry_above : Own → Option File → Unfolded → Unfolded → Unfolded
+entry_above own None less more = Folder own.id own.name less more own.inside
+entry_above own (Some f) less more = Leaf own.id own.name less more f.size f.counter (versions own.id f)
 
 -- a treap of entries as the topmost with those below it
-abbrev pub entries : Treap Own → Unfolded
-entries Empty = Absent
-entries (Over own less more) = entry own own.file (entries less) (entries more)
+abbrev pub unfolded_entries : Treap Own → Unfolded
+unfolded_entries Empty = Absent
+unfolded_entries (Over own less more) = entry_above own own.file (unfolded_entries less) (unfolded_entries more)
 
 -- the treap of entries in order of names, by their priorities under an order key
-abbrev pub arranged : List ℕ → List Own → Unfolded
-arranged order owns = entries (treap (beside (priority order) own_id) owns)
+abbrev pub treap_of_entries : List ℕ → List Own → Unfolded
+treap_of_entries order owns = unfolded_entries (treap (beside (priority order) own_id) owns)
 
 -- the rows of a directory as entries by themselves
 abbrev pub owns : List ℕ → Rows → List Own
 owns order End = []
-owns order (Row id name file inside next) = record { id = id; name = name; file = file; inside = arranged order (owns order inside) } ∷ owns order next
+owns order (Row id name file inside next) = record { id = id; name = name; file = file; inside = treap_of_entries order (owns order inside) } ∷ owns order next
 
 -- the entries of a directory
 unfoldable pub directory : List ℕ → Rows → Unfolded
-directory order rows = arranged order (owns order rows)
+directory order rows = treap_of_entries order (owns order rows)
 
 -- the entry of an id in the treap of one directory
 abbrev pub entry_in : ℕ → Unfolded → Option Unfolded
@@ -68,24 +68,24 @@ part_in l i (Leaf id name less more size counter versions) = None
 part_in l i (Stored version bytes) = None
 
 -- the block of a place, none where it is a hole
-abbrev pub block_in : ℕ → File → Option Unfolded
-block_in p f = if f.version p == 0 then None else Some (Stored (f.version p) (f.block p))
+abbrev pub block_of_place : ℕ → File → Option Unfolded
+block_of_place p f = if f.version p == 0 then None else Some (Stored (f.version p) (f.block p))
 
 -- what a name stands for among the entries of one directory
 abbrev pub in_directory : Name → Unfolded → Option Unfolded
-in_directory (Entry i) entries = entry_in i.0 entries
-in_directory (Part f l i) entries = None
-in_directory (Block f p) entries = None
+in_directory (Entry i) unfolded_entries = entry_in i.0 unfolded_entries
+in_directory (Part f l i) unfolded_entries = None
+in_directory (Block f p) unfolded_entries = None
 
 -- what a name stands for among the parts at and below a side of a file
 abbrev pub in_parts : Name → ℕ → Unfolded → Option Unfolded
-in_parts (Part g l i) file side = if g.0 == file then part_in l i side else None
-in_parts (Entry i) file side = None
-in_parts (Block g p) file side = None
+in_parts (Part g l i) file unfolded_side = if g.0 == file then part_in l i unfolded_side else None
+in_parts (Entry i) file unfolded_side = None
+in_parts (Block g p) file unfolded_side = None
 
 -- what a name stands for among the blocks of a file
 abbrev pub in_blocks : Name → ℕ → File → Option Unfolded
-in_blocks (Block g p) file f = if g.0 == file then block_in p f else None
+in_blocks (Block g p) file f = if g.0 == file then block_of_place p f else None
 in_blocks (Entry i) file f = None
 in_blocks (Part g l i) file f = None
 

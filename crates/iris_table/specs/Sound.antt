@@ -3,7 +3,7 @@ use Rattle.std.specs.Prelude.{◌≡◌, true, ℕ, ◌+◌, ◌/◌, ◌%◌, �
 use Rattle.std.specs.List.{list_all}
 use Rattle.iris_name.specs.Paths.{is_name}
 use Rattle.iris_node.specs.Rules.{most_length}
-use Rattle.iris_plain.specs.Routes.{before}
+use Rattle.iris_plain.specs.Routes.{is_name_before}
 use Rattle.iris_plain.specs.Checks.{blocks_of}
 use Rattle.iris_table.specs.Rows.{File, Rows, End, Row, Table, find, zeros}
 use Rattle.iris_table.specs.Changes.{trash_name}
@@ -18,13 +18,13 @@ abbrev pub ArePages : (ℕ → List ℕ) → Type 0
 ArePages block = (p : ℕ) → length (block p) ≡ 4096
 
 -- the byte of a file's blocks at an offset
-abbrev pub byte_at : (ℕ → List ℕ) → ℕ → ℕ
-byte_at block i = slice_index (block (i / 4096)) (i % 4096)
+abbrev pub content_byte : (ℕ → List ℕ) → ℕ → ℕ
+content_byte block i = slice_index (block (i / 4096)) (i % 4096)
 
 -- a file's blocks are whole, with zeros past its end
 abbrev pub IsGood : Option File → Type 0
 IsGood None = Unit {0}
-IsGood (Some f) = ArePages f.block × ((i : ℕ) → f.size ≤ i → byte_at f.block i ≡ 0)
+IsGood (Some f) = ArePages f.block × ((i : ℕ) → f.size ≤ i → content_byte f.block i ≡ 0)
 
 -- so are those of every file among rows
 abbrev pub AreGood : Rows → Type 0
@@ -39,8 +39,8 @@ pub record IsCounted (age : ℕ) (f : File) : Type 0 where
   pub hole : (p : ℕ) → f.version p ≡ 0 → f.block p ≡ zeros
 
 -- a file isn't too long for its record
-abbrev pub IsShort : File → Type 0
-IsShort f = f.size ≤ most_length
+abbrev pub FitsRecord : File → Type 0
+FitsRecord f = f.size ≤ most_length
 
 -- the fact for a file, where there is one
 abbrev pub OnFile : (File → Type 0) → Option File → Type 0
@@ -53,9 +53,9 @@ AllFiles P End = Unit {0}
 AllFiles P (Row id name file inside next) = OnFile P file × AllFiles P inside × AllFiles P next
 
 -- how often an id stands among rows
-abbrev pub times : ℕ → Rows → ℕ
-times i End = 0
-times i (Row id name file inside next) = (if i == id then 1 else 0) + (times i inside + times i next)
+abbrev pub times_given : ℕ → Rows → ℕ
+times_given i End = 0
+times_given i (Row id name file inside next) = (if i == id then 1 else 0) + (times_given i inside + times_given i next)
 
 -- how many rows there are, those inside directories too
 abbrev pub rows_in : Rows → ℕ
@@ -64,12 +64,12 @@ rows_in (Row id name file inside next) = 1 + (rows_in inside + rows_in next)
 
 -- each id that was given stands once at most, and no other stands
 abbrev pub AreOnce : Table → Type 0
-AreOnce t = (i : ℕ) → times i t.visible + times i t.trash ≤ (if nat_le 2 i && nat_lt i t.next then 1 else 0)
+AreOnce t = (i : ℕ) → times_given i t.visible + times_given i t.trash ≤ (if nat_le 2 i && nat_lt i t.next then 1 else 0)
 
 -- a name comes before the first of rows
-abbrev pub IsAbove : List ℕ → Rows → Type 0
-IsAbove n End = Unit {0}
-IsAbove n (Row id name file inside next) = before n name ≡ true
+abbrev pub PrecedesFirst : List ℕ → Rows → Type 0
+PrecedesFirst n End = Unit {0}
+PrecedesFirst n (Row id name file inside next) = is_name_before n name ≡ true
 
 -- a name without a slash
 abbrev pub has_no_slash : List ℕ → Bool
@@ -82,12 +82,12 @@ is_step name = is_name name && has_no_slash name
 -- the names of each directory rise by their bytes, and each is one step of a path
 abbrev pub IsOrdered : Rows → Type 0
 IsOrdered End = Unit {0}
-IsOrdered (Row id name file inside next) = (is_step name ≡ true) × IsAbove name next × IsOrdered inside × IsOrdered next
+IsOrdered (Row id name file inside next) = (is_step name ≡ true) × PrecedesFirst name next × IsOrdered inside × IsOrdered next
 
 -- the names in the trash rise, each that of its id; those inside directories there rise too and are steps of a path
 abbrev pub IsTrash : Rows → Type 0
 IsTrash End = Unit {0}
-IsTrash (Row id name file inside next) = (name ≡ trash_name id) × IsAbove name next × IsOrdered inside × IsTrash next
+IsTrash (Row id name file inside next) = (name ≡ trash_name id) × PrecedesFirst name next × IsOrdered inside × IsTrash next
 
 -- a table that requests made
 pub record IsSound (t : Table) : Type 0 where
@@ -101,7 +101,7 @@ pub record IsSound (t : Table) : Type 0 where
   pub first : 2 ≤ t.next
   pub next : t.next ≤ t.age + 2
   pub age : t.age ≤ 2 ^ 40
-  pub short : AllFiles IsShort t.visible
-  pub trash_short : AllFiles IsShort t.trash
+  pub short : AllFiles FitsRecord t.visible
+  pub trash_short : AllFiles FitsRecord t.trash
   pub ordered : IsOrdered t.visible
   pub trash_ordered : IsTrash t.trash

@@ -1,14 +1,14 @@
 -- Where a row stands among items in preorder, and how far those inside it reach.
 use Rattle.std.specs.Prelude.{is_some, Bool, true, false, ◌==◌, ◌≡◌, ◌≤◌, ◌<◌, ◌^◌, ℕ, suc, ◌+◌, ◌-◌, List, [], ◌∷◌, drop, Option, Some, None, nat_lt, if◌then◌else◌}
 use Rattle.std.specs.Str.{bytes_eq}
-use Rattle.iris_plain.specs.Routes.{before}
+use Rattle.iris_plain.specs.Routes.{is_name_before}
 use Rattle.iris_table.specs.declared.item.Item.{Item}
 use Rattle.iris_table.specs.declared.rows.Stop.{Stop}
 use Rattle.iris_table.specs.declared.rows.Stop.TheVariants.{Standing, Absent, Barred}
 use Rattle.iris_table.specs.Places.{Kept}
 use Rattle.iris_table.specs.Items.{grown, kept_file, IsForestTo}
 use Rattle.iris_table.specs.Rows.{File, Rows, End, Table, Taken, Found, Here, Missing, Through, resolved, on_file, find}
-use Rattle.iris_table.specs.Changes.{filled, freed}
+use Rattle.iris_table.specs.Changes.{count_written, freed}
 use Rattle.iris_plain.specs.Checks.{blocks_of}
 
 -- the table of these items
@@ -59,16 +59,16 @@ abbrev pub room : ℕ → List ℕ → List Item → ℕ
 room d n [] = 0
 room d n (item ∷ items) =
     if nat_lt item.depth d then 0 else if nat_lt d item.depth then suc (room d n items)
-    else if before n item.name then 0 else suc (room d n items)
+    else if is_name_before n item.name then 0 else suc (room d n items)
 
 -- an item by itself, with a name, at a depth
 abbrev pub relabelled : ℕ → ℕ → Item → Item
 relabelled old new item = record { depth = item.depth - old + new; id = item.id; name = item.name; file = item.file }
 
 -- rows of which the first has another name
-abbrev pub renamed : List ℕ → List Item → List Item
-renamed name [] = []
-renamed name (item ∷ items) = record { depth = item.depth; id = item.id; name = name; file = item.file } ∷ items
+abbrev pub first_renamed : List ℕ → List Item → List Item
+first_renamed name [] = []
+first_renamed name (item ∷ items) = record { depth = item.depth; id = item.id; name = name; file = item.file } ∷ items
 
 -- the depths, counted from one, fit when they are counted from another
 abbrev pub AreWithin : ℕ → ℕ → List Item → Type 0
@@ -122,7 +122,7 @@ pub record IsFiled (change : File → File) (old new : Item) : Type 0 where
 -- the file has no place that is no hole
 abbrev pub is_given_up : Option File → Bool
 is_given_up None = true
-is_given_up (Some file) = filled file.version (blocks_of file.size) == 0
+is_given_up (Some file) = count_written file.version (blocks_of file.size) == 0
 
 -- the first row is a directory, or its file has no place to be freed
 abbrev pub IsGivenUp : List Item → Type 0

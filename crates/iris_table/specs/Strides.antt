@@ -23,7 +23,7 @@ blocks_of_all [] = []
 blocks_of_all (x ∷ xs) = file_blocks x.0 x.1.size ++ blocks_of_all xs
 
 -- what the walk meets at a place: a block with its version in its file, or nothing, so far past the last block
-abbrev pub Meets : List (ℕ × File) → ℕ → Met → Type 0
-Meets files at (Block file place version) =
+abbrev pub WalkMeets : List (ℕ × File) → ℕ → Met → Type 0
+WalkMeets files at (Block file place version) =
     (f : File) × Contains files (file.0, f) × (slice_get (blocks_of_all files) at ≡ Some (record { file = file.0; place = place })) × (version ≡ f.version place)
-Meets files at (Past more) = at ≡ length (blocks_of_all files) + more
+WalkMeets files at (Past more) = at ≡ length (blocks_of_all files) + more

@@ -4,7 +4,7 @@ use Rattle.iris_plain.specs.Checks.{blocks_of}
 use Rattle.iris_plain.specs.Files.{PlainState}
 use Rattle.iris_plain.specs.declared.files.Kind.{Kind}
 use Rattle.iris_plain.specs.declared.files.Kind.TheVariants.{Dir, Bytes}
-use Rattle.iris_table.specs.Rows.{File, Table, Taken, find, root}
+use Rattle.iris_table.specs.Rows.{File, Table, Taken, find, root_row}
 
 -- so many blocks one after another
 abbrev pub joined : (ℕ → List ℕ) → ℕ → ℕ → List ℕ
@@ -16,9 +16,9 @@ abbrev pub content : File → List ℕ
 content f = take f.size (joined f.block 0 (blocks_of f.size))
 
 -- what a row is to clients
-abbrev pub kind : Option File → Kind
-kind None = Dir
-kind (Some f) = Bytes (content f)
+abbrev pub kind_of : Option File → Kind
+kind_of None = Dir
+kind_of (Some f) = Bytes (content f)
 
 -- only a directory leads on
 abbrev pub into : Option File → Option Kind → Option Kind
@@ -31,10 +31,10 @@ bound None f = None
 bound (Some row) f = f row
 
 -- what stands at a path from a row
-abbrev pub look : List (List ℕ) → Taken → Option Kind
-look [] row = Some (kind row.file)
-look (n ∷ ns) row = into row.file (bound (find n row.inside) (λ below. look ns below))
+abbrev pub kind_below : List (List ℕ) → Taken → Option Kind
+kind_below [] row = Some (kind_of row.file)
+kind_below (n ∷ ns) row = into row.file (bound (find n row.inside) (λ below. kind_below ns below))
 
 -- the plain state of the rows below the visible root
 abbrev pub view : Table → PlainState
-view t = record { files = λ q. look q (root t); age = t.age }
+view t = record { files = λ q. kind_below q (root_row t); age = t.age }

@@ -15,9 +15,9 @@ use Rattle.iris_table.specs.declared.records.Level.{Level}
 use Rattle.iris_table.specs.Items.{grown, kept_file}
 use Rattle.iris_table.specs.Places.{Kept, file_of}
 use Rattle.iris_table.specs.Rows.{File, Rows, End, Row as TableRow}
-use Rattle.iris_table.specs.Shown.{Own, entry, owns, versions, directory, in_directory, in_file}
+use Rattle.iris_table.specs.Shown.{Own, entry_above, owns, versions, directory, in_directory, in_file}
 use Rattle.iris_table.specs.Pieces.{file_told}
-use Rattle.iris_table.specs.Sound.{is_step, times, IsAbove}
+use Rattle.iris_table.specs.Sound.{is_step, times_given, PrecedesFirst}
 
 -- an entry as a row
 abbrev pub row_of : Own → Row
@@ -49,13 +49,13 @@ abbrev pub own_at : List Own → ℕ → Own
 own_at owns k = owned (slice_get owns k)
 
 -- the entry at a place above the entries of lesser and of greater names
-abbrev pub entry_at : List Own → ℕ → Unfolded → Unfolded → Unfolded
-entry_at owns k less more = entry (own_at owns k) (own_at owns k).file less more
+abbrev pub placed_entry : List Own → ℕ → Unfolded → Unfolded → Unfolded
+placed_entry owns k less more = entry_above (own_at owns k) (own_at owns k).file less more
 
 -- a treap of places as the entries of a directory's rows
 abbrev pub placed : List Own → Treap ℕ → Unfolded
 placed owns Empty = Absent
-placed owns (Over row less more) = entry_at owns row (placed owns less) (placed owns more)
+placed owns (Over row less more) = placed_entry owns row (placed owns less) (placed owns more)
 
 -- the places of a treap are those of so many rows
 abbrev pub ArePlacesOf : ℕ → Treap ℕ → Type 0
@@ -115,12 +115,12 @@ inside_items order n (item ∷ items) = either (inside_item order n item item.fi
 -- the names of rows rise, not regarding what is inside them
 abbrev pub IsRising : Rows → Type 0
 IsRising End = Unit {0}
-IsRising (TableRow id name file inside next) = IsAbove name next × IsRising next
+IsRising (TableRow id name file inside next) = PrecedesFirst name next × IsRising next
 
 -- an item, and what lies inside it among the items that follow: ids once, names rising
 pub record IsFit (item : Item) (items : List Item) : Type 0 where
   pub own : IsItem item
-  pub once : (i : ℕ) → times i (grown (item.depth + 1) items) ≤ 1
+  pub once : (i : ℕ) → times_given i (grown (item.depth + 1) items) ≤ 1
   pub rising : IsRising (grown (item.depth + 1) items)
 
 -- each item is so
@@ -131,7 +131,7 @@ AreFit (item ∷ items) = IsFit item items × AreFit items
 -- items whose ids stand once and whose names rise, each with what lies inside it
 pub record AreStored (items : List Item) : Type 0 where
   pub fit : AreFit items
-  pub once : (i : ℕ) → times i (grown 0 items) ≤ 1
+  pub once : (i : ℕ) → times_given i (grown 0 items) ≤ 1
   pub rising : IsRising (grown 0 items)
 
 -- what a name stands for among items: in the topmost directory, or inside an item

@@ -5,7 +5,7 @@ ghost use Rattle.std.specs.Prelude.{◌++◌, ℕ, List, slice_get};
 ghost use Rattle.iris_table.specs.Challenges.{table_walk, IsProbed};
 ghost use Rattle.iris_table.specs.Items.{IsForest};
 ghost use Rattle.iris_table.specs.Stops.{table_over};
-ghost use Rattle.iris_table.specs.Strides.{Meets, files_of};
+ghost use Rattle.iris_table.specs.Strides.{WalkMeets, files_of};
 
 use crate::item::Item;
 use iris_name::{FileId, PlainError, Reply};
@@ -25,7 +25,7 @@ pub enum Met {
 
 /// What the walk over the blocks of rows meets at a place, counted from 0. Holes count.
 pub fn meet(items: &[Item], at: u64) -> Met
-    ensures { Meets (files_of items.now) at result }
+    ensures { WalkMeets (files_of items.now) at result }
 {
     let mut left = at;
     for item in items {
@@ -47,7 +47,7 @@ pub fn meet(items: &[Item], at: u64) -> Met
 
 // What the walk meets below the visible root, and then in the trash.
 fn meet_both(visible: &[Item], trash: &[Item], at: u64) -> Met
-    ensures { Meets (files_of visible.now ++ files_of trash.now) at result }
+    ensures { WalkMeets (files_of visible.now ++ files_of trash.now) at result }
 {
     match meet(visible, at) {
         Met::Past(left) => meet(trash, left),

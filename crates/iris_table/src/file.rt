@@ -4,7 +4,7 @@ ghost use Rattle.std.specs.Prelude.{◌≡◌, ◌<◌, ◌≤◌, ◌+◌, ◌*
 ghost use Rattle.std.specs.List.{list_all};
 ghost use Rattle.iris_plain.specs.Checks.{blocks_of};
 ghost use Rattle.iris_table.specs.Rows.{empty_file, zeros};
-ghost use Rattle.iris_table.specs.Changes.{written, cut, freed, filled, merged};
+ghost use Rattle.iris_table.specs.Changes.{file_written, cut, freed, count_written, merged};
 ghost use Rattle.iris_table.specs.View.{content, joined};
 ghost use Rattle.iris_table.specs.Places.{Kept, IsKept, file_of, version_at, block_at, hole, ArePlaces, put_pages, cut_page, split_places};
 
@@ -175,7 +175,7 @@ fn write_over(
     requires counter { counter < 2 ^ 63 }
     requires kept { IsKept (record { size = size; counter = counter; places = places.old.items }) }
     ensures ok { OnOk result (file_of (record { size = if nat_lt size (offset + length bytes.now) then offset + length bytes.now else size; counter = counter + 1; places = places.new.items })
-        ≡ written offset bytes.now (file_of (record { size = size; counter = counter; places = places.old.items }))) }
+        ≡ file_written offset bytes.now (file_of (record { size = size; counter = counter; places = places.old.items }))) }
     ensures kept { OnOk result (IsKept (record { size = if nat_lt size (offset + length bytes.now) then offset + length bytes.now else size; counter = counter + 1; places = places.new.items })) }
     ensures err { OnErr result (places.new.items ≡ places.old.items) }
 {
@@ -248,8 +248,8 @@ fn refit(
 // Makes the first places that are no holes holes.
 fn free(places: &mut [Place])
     requires { ArePlaces places.old }
-    ensures versions { (p : ℕ) → version_at places.new p ≡ (if nat_lt (filled (version_at places.old) p) 16 then 0 else version_at places.old p) }
-    ensures blocks { (p : ℕ) → block_at places.new p ≡ (if nat_lt (filled (version_at places.old) p) 16 then zeros else block_at places.old p) }
+    ensures versions { (p : ℕ) → version_at places.new p ≡ (if nat_lt (count_written (version_at places.old) p) 16 then 0 else version_at places.old p) }
+    ensures blocks { (p : ℕ) → block_at places.new p ≡ (if nat_lt (count_written (version_at places.old) p) 16 then zeros else block_at places.old p) }
     ensures places { ArePlaces places.new }
 {
     let mut freed = 0;
@@ -320,7 +320,7 @@ impl FileRow {
         requires some { 0 < length bytes.now }
         requires room { offset + length bytes.now ≤ 268435456 }
         requires counter { self.old.counter < 2 ^ 63 }
-        ensures ok { OnOk result (file_of self.new ≡ written offset bytes.now (file_of self.old)) }
+        ensures ok { OnOk result (file_of self.new ≡ file_written offset bytes.now (file_of self.old)) }
         ensures err { OnErr result (self.new ≡ self.old) }
     {
         let size = self.size;
@@ -355,7 +355,7 @@ impl FileRow {
 
     /// Whether each place is a hole.
     pub fn is_free(&self) -> bool
-        ensures { result ≡ (filled (file_of self.now).version (blocks_of self.now.size) == 0) }
+        ensures { result ≡ (count_written (file_of self.now).version (blocks_of self.now.size) == 0) }
     {
         are_holes(self.places.as_slice())
     }

@@ -2,13 +2,13 @@
 
 ghost use Rattle.std.specs.Prelude.{◌≡◌, ◌≤◌, ◌<◌, ◌+◌, ◌-◌, ◌^◌, ◌++◌, ℕ, List, true, false, length, take, drop, map, is_some, IfOk, OnOk, OnErr, Some, vec_len, vec_capacity};
 ghost use Rattle.iris_plain.specs.Routes.{parent, last, is_front};
-ghost use Rattle.iris_plain.specs.Checks.{is_dir, is_file, is_there};
-ghost use Rattle.iris_table.specs.Rows.{File, End, put, at, file_at, empty_file};
-ghost use Rattle.iris_table.specs.Changes.{written, cut, removed, moved, emptied, reclaimed, thrown, seen_row};
+ghost use Rattle.iris_plain.specs.Checks.{is_directory_seen, is_file, is_there};
+ghost use Rattle.iris_table.specs.Rows.{File, End, with_row, at, file_at, empty_file};
+ghost use Rattle.iris_table.specs.Changes.{file_written, cut, removed, row_moved, emptied, reclaimed, thrown, seen_row};
 ghost use Rattle.iris_table.specs.Items.{grown, kept_file, IsForest};
 ghost use Rattle.iris_table.specs.Places.{Kept, file_of};
 ghost use Rattle.iris_table.specs.Sound.{IsDistinct};
-ghost use Rattle.iris_table.specs.Stops.{met_in, file_met, table_over, run_length, relabelled, after_run, first_name, renamed, IsRun, run_row, AreWithin, IsFiled, IsFreed, IsGivenUp, has_child};
+ghost use Rattle.iris_table.specs.Stops.{met_in, file_met, table_over, run_length, relabelled, after_run, first_name, first_renamed, IsRun, run_row, AreWithin, IsFiled, IsFreed, IsGivenUp, has_child};
 
 use crate::digits::trash_name;
 use crate::file::FileRow;
@@ -49,7 +49,7 @@ fn put_in(items: &mut Vec<Item>, at: usize, mut run: Vec<Item>)
 fn relabel(run: &mut [Item], from: usize, to: usize, name: Text)
     requires some { 0 < length run.old }
     requires depths { AreWithin from to run.old }
-    ensures { run.new ≡ renamed name (map (relabelled from to) run.old) }
+    ensures { run.new ≡ first_renamed name (map (relabelled from to) run.old) }
 {
     for k in 0..run.len() {
         run[k].depth = run[k].depth - from + to;
@@ -60,10 +60,10 @@ fn relabel(run: &mut [Item], from: usize, to: usize, name: Text)
 // Puts a run in at a path. There is room for it.
 fn put_at(items: &mut Vec<Item>, names: &[Text], run: Vec<Item>)
     requires named { 0 < length names.now }
-    requires parent { is_dir (seen_row (met_in items.old.items (parent names.now))) ≡ true }
+    requires parent { is_directory_seen (seen_row (met_in items.old.items (parent names.now))) ≡ true }
     requires run { IsRun (length names.now - 1) (last names.now) run.items }
     requires spare { vec_len items.old + vec_len run ≤ vec_capacity items.old }
-    ensures rows { grown 0 items.new.items ≡ at (parent names.now) (put (last names.now) (run_row run.items)) (grown 0 items.old.items) }
+    ensures rows { grown 0 items.new.items ≡ at (parent names.now) (with_row (last names.now) (run_row run.items)) (grown 0 items.old.items) }
     ensures forest { IsForest items.old.items → IsForest items.new.items }
 {
     let depth = names.len() - 1;
@@ -81,8 +81,8 @@ pub fn insert(
     file: Option<FileRow>,
 ) -> Result<(), NoMemory>
     requires named { 0 < length names.now }
-    requires parent { is_dir (seen_row (met_in items.old.items (parent names.now))) ≡ true }
-    ensures ok { OnOk result (grown 0 items.new.items ≡ at (parent names.now) (put (last names.now) (record { id = id.0; file = kept_file file; inside = End })) (grown 0 items.old.items)) }
+    requires parent { is_directory_seen (seen_row (met_in items.old.items (parent names.now))) ≡ true }
+    ensures ok { OnOk result (grown 0 items.new.items ≡ at (parent names.now) (with_row (last names.now) (record { id = id.0; file = kept_file file; inside = End })) (grown 0 items.old.items)) }
     ensures err { OnErr result (items.new.items ≡ items.old.items) }
     ensures forest { IsForest items.old.items → IsForest items.new.items }
 {
@@ -165,7 +165,7 @@ fn throw(
 fn put_in_trash(trash: &mut Vec<Item>, run: Vec<Item>)
     requires run { IsRun 0 (first_name run.items) run.items }
     requires spare { vec_len trash.old + vec_len run ≤ vec_capacity trash.old }
-    ensures rows { grown 0 trash.new.items ≡ put (first_name run.items) (run_row run.items) (grown 0 trash.old.items) }
+    ensures rows { grown 0 trash.new.items ≡ with_row (first_name run.items) (run_row run.items) (grown 0 trash.old.items) }
     ensures forest { IsForest trash.old.items → IsForest trash.new.items }
 {
     let at = room(trash.as_slice(), 0, 0, &run[0].name);
@@ -229,11 +229,11 @@ pub fn rename(
     requires old_named { 0 < length olds.now }
     requires new_named { 0 < length news.now }
     requires there { is_there (seen_row (met_in visible.old.items olds.now)) ≡ true }
-    requires parent { is_dir (seen_row (met_in visible.old.items (parent news.now))) ≡ true }
+    requires parent { is_directory_seen (seen_row (met_in visible.old.items (parent news.now))) ≡ true }
     requires ahead { is_front olds.now news.now ≡ false }
     requires forest { IsForest visible.old.items }
     requires distinct { IsDistinct (grown 0 visible.old.items) }
-    ensures ok { OnOk result ((trash : List Item) (next age : ℕ) → table_over visible.new.items trash next (age + 1) ≡ moved olds.now news.now (table_over visible.old.items trash next age) (met_in visible.old.items olds.now)) }
+    ensures ok { OnOk result ((trash : List Item) (next age : ℕ) → table_over visible.new.items trash next (age + 1) ≡ row_moved olds.now news.now (table_over visible.old.items trash next age) (met_in visible.old.items olds.now)) }
     ensures err { OnErr result (visible.new.items ≡ visible.old.items) }
     ensures visible_forest { IsForest visible.new.items }
 {
@@ -262,7 +262,7 @@ pub fn write_at(
     requires room { offset + length bytes.now ≤ 268435456 }
     requires counter { (file : File) → file_met (met_in items.old names.now) ≡ Some file → file.counter < 2 ^ 63 }
     requires file { is_file (seen_row (met_in items.old names.now)) ≡ true }
-    ensures ok { OnOk result (grown 0 items.new ≡ at (parent names.now) (file_at (last names.now) (written offset bytes.now)) (grown 0 items.old)) }
+    ensures ok { OnOk result (grown 0 items.new ≡ at (parent names.now) (file_at (last names.now) (file_written offset bytes.now)) (grown 0 items.old)) }
     ensures err { OnErr result (items.new ≡ items.old) }
     ensures forest { IsForest items.old → IsForest items.new }
 {
@@ -277,7 +277,7 @@ fn write_item(alloc: Global, item: &mut Item, offset: u64, bytes: &[u8]) -> Resu
     requires some { 0 < length bytes.now }
     requires room { offset + length bytes.now ≤ 268435456 }
     requires counter { (file : Kept) → item.old.file ≡ Some file → file.counter < 2 ^ 63 }
-    ensures ok { OnOk result (IsFiled (written offset bytes.now) item.old item.new) }
+    ensures ok { OnOk result (IsFiled (file_written offset bytes.now) item.old item.new) }
     ensures depth { item.new.depth ≡ item.old.depth }
     ensures kind { is_some item.new.file ≡ is_some item.old.file }
     ensures err { OnErr result (item.new ≡ item.old) }

@@ -4,18 +4,18 @@ ghost use Rattle.std.specs.Prelude.{◌≡◌, ◌≤◌, ◌<◌, ◌-◌, ◌+
 ghost use Rattle.iris_name.specs.Hmac.{record_of};
 ghost use Rattle.iris_name.specs.Names.{same_name};
 ghost use Rattle.iris_node.specs.Nodes.{name_of, IsNode};
-ghost use Rattle.iris_node.specs.Rules.{most_level, IsBody, IsLinked};
+ghost use Rattle.iris_node.specs.Rules.{most_level, IsBody, IsLinkToNamed};
 ghost use Rattle.iris_node.specs.Spelling.{spelling};
 ghost use Rattle.iris_node.specs.Unfolded.{Unfolded, Absent, Folder, node_record, hash, link_to, side_to, node_of};
 ghost use Rattle.iris_table.specs.Records.{looked, AreLive, root_hash};
 ghost use Rattle.iris_table.specs.Places.{IsPlace, version_at, file_of};
-ghost use Rattle.iris_shape.specs.Sides.{side};
+ghost use Rattle.iris_shape.specs.Sides.{unfolded_side};
 ghost use Rattle.iris_table.specs.Shown.{Own, owns, versions, directory, in_parts, in_blocks, in_file, in_directory};
 ghost use Rattle.iris_table.specs.Unmade.{unmade_fold, unmade_treap};
 ghost use Rattle.iris_table.specs.Pieces.{Adds, IsHalved, at_place, file_told};
-ghost use Rattle.iris_table.specs.Walks.{link_blocks, IsRow, IsLevel, IsLevelOf, ArePlacesOf, at_top, entry_at, placed, IsItem, IsRising, item_row, IsFit, AreFit, AreStored, own_of, inside_item, inside_items, among_items, root_of_items, shown_items, all_owns, told as told_of};
+ghost use Rattle.iris_table.specs.Walks.{link_blocks, IsRow, IsLevel, IsLevelOf, ArePlacesOf, at_top, placed_entry, placed, IsItem, IsRising, item_row, IsFit, AreFit, AreStored, own_of, inside_item, inside_items, among_items, root_of_items, shown_items, all_owns, told as told_of};
 ghost use Rattle.iris_table.specs.Items.{grown, IsForest};
-ghost use Rattle.iris_table.specs.Sound.{times, IsSound};
+ghost use Rattle.iris_table.specs.Sound.{times_given, IsSound};
 ghost use Rattle.iris_table.specs.Stops.{table_over};
 ghost use Rattle.sha2.specs.Sha256.{sha256};
 ghost use Rattle.std.specs.Int.{w64, to_be_bytes};
@@ -72,8 +72,8 @@ fn side_of(
     requires level { level ≤ most_level }
     requires index { index < 2 ^ (most_level - level) }
     requires halved { IsHalved level (unmade_fold folded.now) }
-    ensures side { IfOk result (λ s. s ≡ side_to (side file.0 level index (unmade_fold folded.now)) (node_of (side file.0 level index (unmade_fold folded.now)))) }
-    ensures puts { OnOk result ((key : List ℕ) → Adds key (λ n. in_parts n file.0 (side file.0 level index (unmade_fold folded.now))) shelf.old shelf.new) }
+    ensures side { IfOk result (λ s. s ≡ side_to (unfolded_side file.0 level index (unmade_fold folded.now)) (node_of (unfolded_side file.0 level index (unmade_fold folded.now)))) }
+    ensures puts { OnOk result ((key : List ℕ) → Adds key (λ n. in_parts n file.0 (unfolded_side file.0 level index (unmade_fold folded.now))) shelf.old shelf.new) }
 {
     match folded {
         Folded::One(version) => Ok(Side::Fold(*version)),
@@ -242,8 +242,8 @@ fn entry_node(
 ) -> Result<EntryNode, NoMemory>
     requires row { IsRow row.now }
     requires body { IsBody body }
-    requires left { IsLinked left }
-    requires right { IsLinked right }
+    requires left { IsLinkToNamed left }
+    requires right { IsLinkToNamed right }
     ensures { IfOk result (λ e. e ≡ record { id = row.now.id; name = row.now.name; left = left; right = right; body = body }) }
 {
     let name = row.name.copy(alloc)?;
@@ -268,13 +268,13 @@ fn put_entry(
 ) -> Result<Option<Link>, NoMemory>
     requires level { IsLevel level.now }
     requires place { place < length level.now.rows.items }
-    requires left { IsLinked left }
-    requires right { IsLinked right }
-    ensures linked { IfOk result (λ l. IsLinked l) }
+    requires left { IsLinkToNamed left }
+    requires right { IsLinkToNamed right }
+    ensures linked { IfOk result (λ l. IsLinkToNamed l) }
     ensures link { IfOk result (λ l. (owns : List Own) (less more : Unfolded) → IsLevelOf owns level.now → left ≡ link_to less (node_of less) → right ≡ link_to more (node_of more)
-        → l ≡ link_to (entry_at owns place less more) (node_of (entry_at owns place less more))) }
+        → l ≡ link_to (placed_entry owns place less more) (node_of (placed_entry owns place less more))) }
     ensures puts { OnOk result ((owns : List Own) (less more : Unfolded) (key : List ℕ) → IsLevelOf owns level.now → left ≡ link_to less (node_of less) → right ≡ link_to more (node_of more)
-        → Adds key (λ n. at_top n (entry_at owns place less more)) shelf.old shelf.new) }
+        → Adds key (λ n. at_top n (placed_entry owns place less more)) shelf.old shelf.new) }
 {
     let row = &level.rows[place as usize];
     let told = &level.told[place as usize];
@@ -297,7 +297,7 @@ fn link_of(
 ) -> Result<Option<Link>, NoMemory>
     requires level { IsLevel level.now }
     requires places { ArePlacesOf (length level.now.rows.items) (unmade_treap shape.now) }
-    ensures linked { IfOk result (λ l. IsLinked l) }
+    ensures linked { IfOk result (λ l. IsLinkToNamed l) }
     ensures link { IfOk result (λ l. (owns : List Own) → IsLevelOf owns level.now → l ≡ link_to (placed owns (unmade_treap shape.now)) (node_of (placed owns (unmade_treap shape.now)))) }
     ensures puts { OnOk result ((owns : List Own) (key : List ℕ) → IsLevelOf owns level.now → Adds key (λ n. in_directory n (placed owns (unmade_treap shape.now))) shelf.old shelf.new) }
 {
@@ -361,9 +361,9 @@ fn put_directory(
     requires told { told.now ≡ map told_of (all_owns keys.now.order items.now) }
     requires items { All IsItem items.now }
     requires bodies { All (λ t. IsBody t.body) told.now }
-    requires once { (i : ℕ) → times i (grown depth items.now) ≤ 1 }
+    requires once { (i : ℕ) → times_given i (grown depth items.now) ≤ 1 }
     requires rising { IsRising (grown depth items.now) }
-    ensures linked { IfOk result (λ l. IsLinked l) }
+    ensures linked { IfOk result (λ l. IsLinkToNamed l) }
     ensures link { IfOk result (λ l. l ≡ link_to (directory keys.now.order (grown depth items.now)) (node_of (directory keys.now.order (grown depth items.now)))) }
     ensures puts { OnOk result ((key : List ℕ) → Adds key (λ n. in_directory n (directory keys.now.order (grown depth items.now))) shelf.old shelf.new) }
 {
@@ -444,7 +444,7 @@ fn put_rows(
     items: &[Item],
 ) -> Result<Option<Link>, NoMemory>
     requires { AreStored items.now }
-    ensures linked { IfOk result (λ l. IsLinked l) }
+    ensures linked { IfOk result (λ l. IsLinkToNamed l) }
     ensures link { IfOk result (λ l. l ≡ link_to (directory keys.now.order (grown 0 items.now)) (node_of (directory keys.now.order (grown 0 items.now)))) }
     ensures puts { OnOk result (Adds keys.now.block (λ n. among_items keys.now.order n items.now) shelf.old shelf.new) }
 {
@@ -460,7 +460,7 @@ fn put_root(
     top: Option<Link>,
 ) -> Result<Hash32, NoMemory>
     requires root { id.0 < 2 }
-    requires top { IsLinked top }
+    requires top { IsLinkToNamed top }
     ensures hash { IfOk result (λ h. (inside : Unfolded) → top ≡ link_to inside (node_of inside) → h.0 ≡ sha256 (node_record (Folder id.0 [] Absent Absent inside))) }
     ensures puts { OnOk result ((inside : Unfolded) (key : List ℕ) → top ≡ link_to inside (node_of inside) → Adds key (λ n. in_directory n (Folder id.0 [] Absent Absent inside)) shelf.old shelf.new) }
 {

@@ -6,7 +6,7 @@ ghost use Rattle.iris_name.specs.declared.request.Request.TheVariants.{Mkdir, Wr
 ghost use Rattle.iris_name.specs.declared.request.Reply.TheVariants.{Reclaimed};
 ghost use Rattle.iris_plain.specs.Checks.{is_full, no_place};
 ghost use Rattle.iris_table.specs.Rows.{empty_table};
-ghost use Rattle.iris_table.specs.Changes.{made, by_names, seen_in, stepped, table_verdict};
+ghost use Rattle.iris_table.specs.Changes.{made, changed_by_names, seen_in, stepped, table_verdict};
 ghost use Rattle.iris_table.specs.Challenges.{table_walk, IsProbed};
 ghost use Rattle.iris_table.specs.Items.{kept_file};
 ghost use Rattle.iris_table.specs.Served.{State, table_in, AreForests, IsWhole};
@@ -125,7 +125,7 @@ impl State {
         requires { IsWhole self.old }
         ensures reply { IfOk result (λ reply. Told (table_in self.old) (Mkdir path.now) reply) }
         ensures step { OnOk result (table_in self.new ≡ (if is_none (table_verdict (table_in self.old) (Mkdir path.now))
-            then by_names (table_in self.old) (names_of path.now) (λ names. made (kept_file file) names (table_in self.old)) else table_in self.old)) }
+            then changed_by_names (table_in self.old) (names_of path.now) (λ names. made (kept_file file) names (table_in self.old)) else table_in self.old)) }
         ensures err { OnErr result (self.new ≡ self.old) }
         ensures forests { AreForests self.new }
     {

@@ -3,7 +3,7 @@
 ghost use Rattle.std.specs.Prelude.{◌≡◌, ℕ, List, OnOk, OnErr, IfOk};
 ghost use Rattle.iris_table.specs.Rows.{empty_table};
 ghost use Rattle.iris_table.specs.Changes.{stepped};
-ghost use Rattle.iris_table.specs.Served.{table_of, table_in, AreForests, IsWhole};
+ghost use Rattle.iris_table.specs.Served.{served_table, table_in, AreForests, IsWhole};
 ghost use Rattle.iris_table.specs.Records.{AreLive, root_hash};
 ghost use Rattle.iris_table.specs.Replies.{TableReplies};
 
@@ -73,7 +73,7 @@ impl Table {
     /// The table of the beginning. It keeps a copy of the keys.
     pub fn new(alloc: Global, keys: &Keys) -> Result<Table, NoMemory>
         ensures keys { IfOk result (λ table. table.keys ≡ keys.now) }
-        ensures table { IfOk result (λ table. table_of table ≡ empty_table) }
+        ensures table { IfOk result (λ table. served_table table ≡ empty_table) }
     {
         Ok(Table {
             keys: *keys,
@@ -83,8 +83,8 @@ impl Table {
 
     /// One request: the reply by its checks, and the next table. A plain error changes nothing.
     pub fn step(&mut self, alloc: Global, request: &Request) -> Result<Reply, NoMemory>
-        ensures reply { IfOk result (λ reply. TableReplies self.old.keys.order (table_of self.old) request.now reply) }
-        ensures step { OnOk result (table_of self.new ≡ stepped (table_of self.old) request.now) }
+        ensures reply { IfOk result (λ reply. TableReplies self.old.keys.order (served_table self.old) request.now reply) }
+        ensures step { OnOk result (served_table self.new ≡ stepped (served_table self.old) request.now) }
         ensures keys { self.new.keys ≡ self.old.keys }
         ensures err { OnErr result (self.new ≡ self.old) }
     {
@@ -93,14 +93,14 @@ impl Table {
 
     /// The records of all live names in order of names, each with its true record. Slow: all hashes and tags are made anew.
     pub fn records_of(&self, alloc: Global, keys: &Keys) -> Result<Vec<(Name, Bytes)>, NoMemory>
-        ensures { IfOk result (λ records. AreLive keys.now (table_of self.now) records.items) }
+        ensures { IfOk result (λ records. AreLive keys.now (served_table self.now) records.items) }
     {
         self.state.records_of(alloc, keys)
     }
 
     /// The root hash. Slow, as the records.
     pub fn root_of(&self, alloc: Global, keys: &Keys) -> Result<Hash32, NoMemory>
-        ensures { IfOk result (λ hash. hash.0 ≡ root_hash keys.now.order (table_of self.now)) }
+        ensures { IfOk result (λ hash. hash.0 ≡ root_hash keys.now.order (served_table self.now)) }
     {
         self.state.root_of(alloc, keys)
     }

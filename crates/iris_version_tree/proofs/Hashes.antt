@@ -19,29 +19,29 @@ use Rattle.iris_node.specs.Fields.{EntryFields, PartFields}
 use Rattle.iris_node.specs.Unfolded.{Unfolded, Absent, Folder, Leaf, Even, Split, Stored, id_of}
 use Rattle.iris_node.specs.Local.{local, entry_local}
 use Rattle.iris_shape.specs.Folds.{Fold, One, Two, folded}
-use Rattle.iris_shape.specs.Sides.{side, part_of}
+use Rattle.iris_shape.specs.Sides.{unfolded_side, part_of}
 use Rattle.iris_cache.specs.declared.held.Held.{Held}
 use Rattle.iris_cache.specs.declared.draft.Change.{Change}
 use Rattle.iris_cache.specs.Rehash.{low_part, high_part, whole_part}
-use Rattle.iris_cache.specs.Resident.{Resident, held, parent_in, IsSound}
+use Rattle.iris_cache.specs.Resident.{Resident, held_node, parent_in, IsSound}
 use Rattle.iris_cache.specs.Drafted.{Drafted, drafted, seen, known_by, there_by, IsDraft}
 use Rattle.iris_node.specs.Trees.{Shown}
 use Rattle.iris_cache.specs.Pictures.{Pictures, IsLike, Holds, SideHolds, BodyHolds, IsHeldHash, WasHash}
 use Rattle.iris_version_tree.specs.Versions.{HasVersions, HadVersions, IsFileOf, places}
-use Rattle.iris_version_tree.specs.Sides.{part_seen, side_below, side_of_body, toward, over_name, held_side}
-use Rattle.iris_version_tree.specs.Reached.{IsTwo, IsSideOf, IsOver}
+use Rattle.iris_version_tree.specs.Sides.{part_seen, side_below, side_of_body, side_toward, over_name, held_side}
+use Rattle.iris_version_tree.specs.Reached.{IsTwo, IsSideOf, IsDirectlyOver}
 use Rattle.iris_version_tree.proofs.Levels.{only_top, fits_up}
 use Rattle.iris_version_tree.proofs.Tables.{LikePart, part_like, never_entry, like_top, part_parent}
 
 -- ---- a node stands under its own name
 
-own_by : (d : Drafted) (c : Resident) (n : Name) (k : Node) (o : Option Change) (w : Option Held) → IsDraft d → IsSound c → drafted d n ≡ o → held c n ≡ w → there_by (known_by o w) ≡ Some k → name_of k ≡ n
+own_by : (d : Drafted) (c : Resident) (n : Name) (k : Node) (o : Option Change) (w : Option Held) → IsDraft d → IsSound c → drafted d n ≡ o → held_node c n ≡ w → there_by (known_by o w) ≡ Some k → name_of k ≡ n
 own_by d c n k (Some x) w ds cs de he e = ds.own n x k de e
 own_by d c n k None (Some h) ds cs de he e = let q : h.node ≡ k = cc in sym (ap name_of q) ∙ cs.own n h he
 own_by d c n k None None ds cs de he e = cc
 
 pub seen_own : (d : Drafted) (c : Resident) (n : Name) (k : Node) → IsDraft d → IsSound c → seen d c n ≡ Some k → name_of k ≡ n
-seen_own d c n k ds cs e = own_by d c n k (drafted d n) (held c n) ds cs refl refl e
+seen_own d c n k ds cs e = own_by d c n k (drafted d n) (held_node c n) ds cs refl refl e
 
 -- ---- the hash that the cache holds of a part
 
@@ -66,7 +66,7 @@ body_holds (File n k versions) s id x is e =
     let P : Side → Type 0 = λ s. SideHolds (whole_part id) s (whole_part id) x in
     subst P (sym q) (refl, refl)
 
-top_holds : (file : FileId) (g : Fold) (o : Option Unfolded) (k : Node) → IsFileOf file.0 (side file.0 16 0 g) o → IsLike o k → IsTwo g → HoldsPart file 16 0 k
+top_holds : (file : FileId) (g : Fold) (o : Option Unfolded) (k : Node) → IsFileOf file.0 (unfolded_side file.0 16 0 g) o → IsLike o k → IsTwo g → HoldsPart file 16 0 k
 top_holds file g None k at like two = absurd at
 top_holds file g (Some (Leaf id label less more size counter kept)) (node.Part p) at like two = cc
 top_holds file g (Some (Leaf id label less more size counter kept)) (node.Entry e) at like two =
@@ -97,11 +97,11 @@ high_name file v k j p like =
     let i : 2 * j + 1 ≡ 2 * p.index + 1 = ap (λ x. 2 * x + 1) (sym like.index_is) in
     cc
 
-toward_low : (j : ℕ) (p : PartFields) → toward ((2 * j) % 2) p ≡ p.low
-toward_low j p = let z : (2 * j) % 2 ≡ 0 = omega arith in ap (λ b. toward b p) z
+toward_low : (j : ℕ) (p : PartFields) → side_toward ((2 * j) % 2) p ≡ p.low
+toward_low j p = let z : (2 * j) % 2 ≡ 0 = omega arith in ap (λ b. side_toward b p) z
 
-toward_high : (j : ℕ) (p : PartFields) → toward ((2 * j + 1) % 2) p ≡ p.high
-toward_high j p = let z : (2 * j + 1) % 2 ≡ 1 = omega arith in ap (λ b. toward b p) z
+toward_high : (j : ℕ) (p : PartFields) → side_toward ((2 * j + 1) % 2) p ≡ p.high
+toward_high j p = let z : (2 * j + 1) % 2 ≡ 1 = omega arith in ap (λ b. side_toward b p) z
 
 part_holds : (file : FileId) (v : ℕ → ℕ) (l i j : ℕ) (p : PartFields) → LikePart file v l j p → (i ≡ 2 * j) ⊎ (i ≡ 2 * j + 1) → IsTwo (folded v l i) → HoldsPart file l i (node.Part p)
 part_holds file v l i j p like (inl e) two =
@@ -120,7 +120,7 @@ mid_holds t file v l i j (node.Entry e) has fits at two like = absurd (never_ent
 mid_holds t file v l i j (node.Part p) has fits at two like = part_holds file v l i j p (part_like t file v l j p has fits like) at two
 
 -- what is like the node over a live part holds a hash of it
-over_holds : (t : Shown) (file : FileId) (v : ℕ → ℕ) (l i : ℕ) (q : Name) (k : Node) → HasVersions t file v → IsOver file l i q → (i + 1) * 2 ^ l ≤ places → IsTwo (folded v l i) → IsLike (t q) k → HoldsPart file l i k
+over_holds : (t : Shown) (file : FileId) (v : ℕ → ℕ) (l i : ℕ) (q : Name) (k : Node) → HasVersions t file v → IsDirectlyOver file l i q → (i + 1) * 2 ^ l ≤ places → IsTwo (folded v l i) → IsLike (t q) k → HoldsPart file l i k
 over_holds t file v l i q k has (inl o) fits two like =
     let z = only_top l i o.0 fits in
     let T : ℕ → ℕ → Type 0 = λ l i. IsTwo (folded v l i) in
@@ -131,7 +131,7 @@ over_holds t file v l i q k has (inr o) fits two like =
     let le : 2 * o.0 ≤ i = elim o.3 [ inl e ↦ omega (arith, e) | inr e ↦ omega (arith, e) ] in
     mid_holds t file v l i o.0 k has (fits_up l i o.0 o.1 le fits) o.3 two (subst (λ q. IsLike (t q) k) o.2 like)
 
-pub over_is : (file : FileId) (l i : ℕ) → l ≤ 16 → IsOver file l i (over_name file l i)
+pub over_is : (file : FileId) (l i : ℕ) → l ≤ 16 → IsDirectlyOver file l i (over_name file l i)
 over_is file l i le = go (l == 16) refl
   where
     half : (i : ℕ) → (i ≡ 2 * (i / 2)) ⊎ (i ≡ 2 * (i / 2) + 1)
@@ -141,7 +141,7 @@ over_is file l i le = go (l == 16) refl
         by true e = let z : i % 2 ≡ 0 = eqb-true (i % 2) 0 e in inl (omega arith)
         by false e = let z : i % 2 ≡ 0 → ⊥ = eqb-false (i % 2) 0 e in inr (omega arith)
 
-    go : (b : Bool) → (l == 16) ≡ b → IsOver file l i (over_name file l i)
+    go : (b : Bool) → (l == 16) ≡ b → IsDirectlyOver file l i (over_name file l i)
     go true e = inl (eqb-true l 16 e, ap (λ b. cond b (name.Entry file) (name.Part file (l + 1) (i / 2))) e)
     go false e =
         let z : l ≡ 16 → ⊥ = eqb-false l 16 e in
@@ -157,29 +157,29 @@ some_of None e = cc
 some_of (Some h) e = (h, refl)
 
 -- a hash that the resident parent holds is the one that is held
-is_held : (c : Resident) (n q : Name) (h g : Held) (x : Hash32) → held c n ≡ Some h → h.parent ≡ Some q → held c q ≡ Some g → Holds g.node n x → IsHeldHash c n x
+is_held : (c : Resident) (n q : Name) (h g : Held) (x : Hash32) → held_node c n ≡ Some h → h.parent ≡ Some q → held_node c q ≡ Some g → Holds g.node n x → IsHeldHash c n x
 is_held c n q h g x at up above holds k m p e f a =
     let u : Some q ≡ Some p = sym up ∙ ap parent_in (sym at ∙ e) ∙ f in
     let r : q ≡ p = cc in
-    subst (λ w. IsSomeAnd w (λ g. Holds g.node n x)) (sym above ∙ ap (λ n. held c n) r ∙ a) holds
+    subst (λ w. IsSomeAnd w (λ g. Holds g.node n x)) (sym above ∙ ap (λ n. held_node c n) r ∙ a) holds
 
 -- the hash that the cache holds of a part, where a table is pictured
 abbrev pub HeldWas : Shown → Resident → FileId → ℕ → ℕ → Type 0
-HeldWas old c file l i = (x : Hash32) × (held_side (held c (over_name file l i)) i ≡ Some (Below x)) × WasHash old c (name.Part file l i) x
+HeldWas old c file l i = (x : Hash32) × (held_side (held_node c (over_name file l i)) i ≡ Some (Below x)) × WasHash old c (name.Part file l i) x
 
-pub held_was : (old : Shown) (c : Resident) (file : FileId) (l i : ℕ) → l ≤ 16 → (i + 1) * 2 ^ l ≤ places → Pictures old c → HadVersions old file → IsSome (held c (name.Part file l i)) → HeldWas old c file l i
+pub held_was : (old : Shown) (c : Resident) (file : FileId) (l i : ℕ) → l ≤ 16 → (i + 1) * 2 ^ l ≤ places → Pictures old c → HadVersions old file → IsSome (held_node c (name.Part file l i)) → HeldWas old c file l i
 held_was old c file l i le fits pic (inr none) some =
     let n = name.Part file l i in
-    let h = some_of (held c n) some in
+    let h = some_of (held_node c n) some in
     absurd (subst (λ o. IsLike o h.0.node) (none l i) (pic.nodes n h.0 h.1))
 held_was old c file l i le fits pic (inl (v, has)) some =
     let n = name.Part file l i in
     let q = over_name file l i in
     let o = over_is file l i le in
-    let h = some_of (held c n) some in
+    let h = some_of (held_node c n) some in
     let two = two_of_like file.0 l i (folded v l i) h.0.node (subst (λ o. IsLike o h.0.node) (has.parts l i fits) (pic.nodes n h.0 h.1)) in
     let p = pic.parents n q h.0 h.1 (part_parent old file v l i q has o fits two) in
-    let g = some_of (held c q) p.1 in
+    let g = some_of (held_node c q) p.1 in
     let k = over_holds old file v l i q g.0.node has o fits two (pic.nodes q g.0 g.1) in
     (k.0, ap (λ o. held_side o i) g.1 ∙ k.1, (pic.hashes q n g.0 k.0 g.1 k.2, is_held c n q h.0 g.0 k.0 h.1 p.0 g.1 k.2))
 

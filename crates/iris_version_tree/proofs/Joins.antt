@@ -13,7 +13,7 @@ use Rattle.iris_node.specs.declared.node.Side.TheVariants.{Fold as Same, Below}
 use Rattle.iris_node.specs.declared.node.Node.{Node}
 use Rattle.iris_node.specs.declared.node.Node.TheVariants as node
 use Rattle.iris_node.specs.Fields.{PartFields}
-use Rattle.iris_node.specs.Rules.{Differ as Apart}
+use Rattle.iris_node.specs.Rules.{AreUnequalSides as Apart}
 use Rattle.iris_shape.specs.Folds.{Fold, One, Two, folded}
 use Rattle.iris_shape.specs.FoldLaws.{Differ}
 use Rattle.iris_shape.specs.Sides.{part_of}
@@ -22,12 +22,12 @@ use Rattle.iris_shape.proofs.FoldProofs.{folded_halves}
 use Rattle.iris_cache.specs.declared.held.Held.{Held}
 use Rattle.iris_cache.specs.declared.draft.Change.{Change}
 use Rattle.iris_cache.specs.Rehash.{low_part, high_part}
-use Rattle.iris_cache.specs.Resident.{Resident, held}
+use Rattle.iris_cache.specs.Resident.{Resident, held_node}
 use Rattle.iris_cache.specs.Drafted.{Drafted, drafted, known_by, set_to, taken_away}
 use Rattle.iris_node.specs.Trees.{Shown}
 use Rattle.iris_cache.specs.Pictures.{Pictures, IsLike, Holds, SideHolds, IsHashOf, WasHash}
-use Rattle.iris_version_tree.specs.Sides.{common_of, IsBelow}
-use Rattle.iris_version_tree.specs.Reached.{IsTwo, IsSideOf, IsOver}
+use Rattle.iris_version_tree.specs.Sides.{common_of, IsBelowSide}
+use Rattle.iris_version_tree.specs.Reached.{IsTwo, IsSideOf, IsDirectlyOver}
 use Rattle.iris_version_tree.specs.Ranges.{IsNodeWith, AtPart, SideAt, IsKnownBelow}
 use Rattle.iris_version_tree.proofs.Tables.{same_one}
 
@@ -133,7 +133,7 @@ side_true old c file w k j part m (Below h) x e at holds =
 
 -- a part that was set
 pub at_set : (old : Shown) (c : Resident) (file : FileId) (l i : ℕ) (w : Option Held) (g : Fold) (o : Option Change) (v : ℕ → ℕ) (k : ℕ) (q : Name) (low high : Side) → l ≡ suc k
-    → AtPart old c file l i g o w → (IsTwo g → IsSome (known_by o w)) → IsOver file l i q → SideAt old c file v k (2 * i) low → SideAt old c file v k (2 * i + 1) high
+    → AtPart old c file l i g o w → (IsTwo g → IsSome (known_by o w)) → IsDirectlyOver file l i q → SideAt old c file v k (2 * i) low → SideAt old c file v k (2 * i + 1) high
     → AtPart old c file l i (Two (folded v k (2 * i)) (folded v k (2 * i + 1))) (Some (set_to (Some q) (node.Part (record { file = file; level = l; index = i; low = low; high = high })))) w
 at_set old c file l i w g o v k q low high e at there over a b =
     let p : PartFields = record { file = file; level = l; index = i; low = low; high = high } in
@@ -168,7 +168,7 @@ there_below (Two a b) (Below h) o like there two = there
 pub even_side : (old : Shown) (c : Resident) (file : FileId) (w : ℕ → ℕ) (l i u : ℕ) → folded w l i ≡ One u → SideAt old c file w l i (Same u)
 even_side old c file w l i u e = record { like = one_side (folded w l i) u e; hash = λ h is. cc }
 
-two_below : (g : Fold) (s : Side) → IsTwo g → IsBelow s → IsSideOf g s
+two_below : (g : Fold) (s : Side) → IsTwo g → IsBelowSide s → IsSideOf g s
 two_below (One v) s two below = absurd two
 two_below (Two a b) (Same w) two below = absurd below
 two_below (Two a b) (Below h) two below = tt
@@ -184,8 +184,8 @@ never_was old c n x pic none = (
 )
 
 -- the side of a part that was set
-pub set_side : (old : Shown) (c : Resident) (file : FileId) (v w : ℕ → ℕ) (l i : ℕ) (was made : Side) → Pictures old c → IsTwo (folded w l i) → SideAt old c file v l i was → IsSome (held c (name.Part file l i)) ⊎ (old (name.Part file l i) ≡ None)
-    → IsBelow made → (IsBelow was → made ≡ was) → ((h : Hash32) → made ≡ Below h → (IsBelow was → ⊥) → IsSome (held c (name.Part file l i)) → WasHash old c (name.Part file l i) h)
+pub set_side : (old : Shown) (c : Resident) (file : FileId) (v w : ℕ → ℕ) (l i : ℕ) (was made : Side) → Pictures old c → IsTwo (folded w l i) → SideAt old c file v l i was → IsSome (held_node c (name.Part file l i)) ⊎ (old (name.Part file l i) ≡ None)
+    → IsBelowSide made → (IsBelowSide was → made ≡ was) → ((h : Hash32) → made ≡ Below h → (IsBelowSide was → ⊥) → IsSome (held_node c (name.Part file l i)) → WasHash old c (name.Part file l i) h)
     → SideAt old c file w l i made
 set_side old c file v w l i (Below x) made pic two at resident below kept hash = record {
   like = two_below (folded w l i) made two below;

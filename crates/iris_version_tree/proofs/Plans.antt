@@ -12,15 +12,15 @@ use Rattle.iris_node.specs.declared.node.Side.TheVariants.{Below}
 use Rattle.iris_node.specs.declared.node.Node.{Node}
 use Rattle.iris_node.specs.Unfolded.{Unfolded, Absent, Folder, Leaf, Even, Split, Stored, id_of}
 use Rattle.iris_shape.specs.Folds.{Fold, One, Two, folded}
-use Rattle.iris_shape.specs.Sides.{side, part_of}
+use Rattle.iris_shape.specs.Sides.{unfolded_side, part_of}
 use Rattle.iris_cache.specs.declared.held.Short.{Short}
 use Rattle.iris_cache.specs.declared.held.Short.TheVariants.{Need, NoMemory}
-use Rattle.iris_cache.specs.Resident.{Resident, held}
+use Rattle.iris_cache.specs.Resident.{Resident, held_node}
 use Rattle.iris_cache.specs.Drafted.{Drafted, drafted, seen}
 use Rattle.iris_node.specs.Trees.{Shown, node_name, IsTree, IsParent, IsAbove}
 use Rattle.iris_cache.specs.Pictures.{IsLike, WasHash}
 use Rattle.iris_cache.proofs.Lacking.{parent_named, unknown}
-use Rattle.iris_version_tree.specs.Versions.{Versioned, HasVersions, Reversions, IsOther, IsFileOf, whole, reversioned, places}
+use Rattle.iris_version_tree.specs.Versions.{Versioned, HasVersions, Reversions, IsOfOtherFile, IsFileOf, whole, reversioned, places}
 use Rattle.iris_version_tree.specs.Needs.{Lacks, IsShort}
 use Rattle.iris_version_tree.specs.Sides.{side_seen, over_name}
 use Rattle.iris_version_tree.specs.Reached.{IsTwo, IsLinkedSide, Reached}
@@ -45,7 +45,7 @@ none_of f l i (Two a b) h = absurd (h tt)
 -- ---- before: what a draft pictures of a file's parts
 
 module _ (old new : Shown) (file : FileId) (v : ℕ → ℕ) (d : Drafted) (c : Resident) (pic : Versioned old new file v d c) where
-  at_part : (l i : ℕ) → 1 ≤ l → Within 16 0 l i → AtPart old c file l i (folded v l i) (drafted d (name.Part file l i)) (held c (name.Part file l i))
+  at_part : (l i : ℕ) → 1 ≤ l → Within 16 0 l i → AtPart old c file l i (folded v l i) (drafted d (name.Part file l i)) (held_node c (name.Part file l i))
   at_part l i some w =
       let n = name.Part file l i in
       let fits = within_fits l i w in
@@ -93,32 +93,32 @@ short_of d c file s low high (Need n x) is m =
 
 -- ---- after: parents in the table with other versions
 
-side_child : (f l i : ℕ) (g : Fold) (n : Name) → node_name (side f l i g) ≡ Some n → IsOther (id_of f) n → ⊥
+side_child : (f l i : ℕ) (g : Fold) (n : Name) → node_name (unfolded_side f l i g) ≡ Some n → IsOfOtherFile (id_of f) n → ⊥
 side_child f l i (One v) n e o = cc
-side_child f l i (Two a b) n e o = let q : name.Part (id_of f) l i ≡ n = cc in let h = subst (IsOther (id_of f)) (sym q) o in h refl
+side_child f l i (Two a b) n e o = let q : name.Part (id_of f) l i ≡ n = cc in let h = subst (IsOfOtherFile (id_of f)) (sym q) o in h refl
 
-part_child_by : (f l i : ℕ) (g : Fold) (u w : Unfolded) (n : Name) → part_of f l i g ≡ Some u → IsAbove u w → node_name w ≡ Some n → IsOther (id_of f) n → ⊥
+part_child_by : (f l i : ℕ) (g : Fold) (u w : Unfolded) (n : Name) → part_of f l i g ≡ Some u → IsAbove u w → node_name w ≡ Some n → IsOfOtherFile (id_of f) n → ⊥
 part_child_by f l i (One v) u w n e a named o = cc
 part_child_by f l i (Two x y) u w n e a named o =
-    let q : u ≡ side f l i (Two x y) = cc in
+    let q : u ≡ unfolded_side f l i (Two x y) = cc in
     elim (subst (λ u. IsAbove u w) q a) [
       | inl h ↦ side_child f (l - 1) (2 * i) x n (sym (ap node_name h) ∙ named) o
       | inr h ↦ side_child f (l - 1) (2 * i + 1) y n (sym (ap node_name h) ∙ named) o
     ]
 
-part_child : (t : Shown) (file : FileId) (v : ℕ → ℕ) (l i : ℕ) (n : Name) → HasVersions t file v → IsParent t (name.Part file l i) n → IsOther file n → ⊥
+part_child : (t : Shown) (file : FileId) (v : ℕ → ℕ) (l i : ℕ) (n : Name) → HasVersions t file v → IsParent t (name.Part file l i) n → IsOfOtherFile file n → ⊥
 part_child t file v l i n has is other = elim (cases_lt places ((i + 1) * 2 ^ l)) [
   | inl h ↦ (let e = has.outside l i h in let q = is.live in let r : None ≡ Some is.parent = sym e ∙ q in cc)
   | inr h ↦ part_child_by file.0 l i (folded v l i) is.parent is.child n (sym (has.parts l i h) ∙ is.live) is.above is.named other
 ]
 
 -- the parent of what isn't a part of the file isn't either
-pub other_parent : (t : Shown) (file : FileId) (v : ℕ → ℕ) (p n : Name) → IsTree t → HasVersions t file v → IsParent t p n → IsOther file n → IsOther file p
+pub other_parent : (t : Shown) (file : FileId) (v : ℕ → ℕ) (p n : Name) → IsTree t → HasVersions t file v → IsParent t p n → IsOfOtherFile file n → IsOfOtherFile file p
 other_parent t file v (name.Entry i) n tree has is other = tt
 other_parent t file v (name.Part g l i) n tree has is other = λ e. part_child t file v l i n has (subst (λ g. IsParent t (name.Part g l i) n) e is) other
 other_parent t file v (name.Block g p) n tree has is other = parent_named t (name.Block g p) n tree is
 
-back_by : (new : Shown) (file : FileId) (v : ℕ → ℕ) (p n : Name) (o : Option Unfolded) (u w : Unfolded) → new p ≡ o → option_map (reversioned file.0 (whole file.0 v)) o ≡ Some u → IsAbove u w → node_name w ≡ Some n → IsOther file n → IsParent new p n
+back_by : (new : Shown) (file : FileId) (v : ℕ → ℕ) (p n : Name) (o : Option Unfolded) (u w : Unfolded) → new p ≡ o → option_map (reversioned file.0 (whole file.0 v)) o ≡ Some u → IsAbove u w → node_name w ≡ Some n → IsOfOtherFile file n → IsParent new p n
 back_by new file v p n None u w at e a named other = cc
 back_by new file v p n (Some x) u w at e a named other =
     let q : u ≡ reversioned file.0 (whole file.0 v) x = cc in
@@ -127,7 +127,7 @@ back_by new file v p n (Some x) u w at e a named other =
       | inr h ↦ record { parent = x; child = h.0; live = at; above = h.1; named = h.2 ∙ named }
     ]
 
-pub parent_back : (new made : Shown) (file : FileId) (v : ℕ → ℕ) (p n : Name) → IsTree made → Reversions new made file v → IsOther file n → IsParent made p n → IsParent new p n
+pub parent_back : (new made : Shown) (file : FileId) (v : ℕ → ℕ) (p n : Name) → IsTree made → Reversions new made file v → IsOfOtherFile file n → IsParent made p n → IsParent new p n
 parent_back new made file v p n tree rev other is =
     let o = other_parent made file v p n tree rev.versions is other in
     back_by new file v p n (new p) is.parent is.child refl (sym (rev.others p o) ∙ is.live) is.above is.named other
@@ -156,7 +156,7 @@ top_same f s t (Even v) w top = absurd top
 top_same f s t (Split g l i a b) w top = absurd top
 top_same f s t (Stored v bytes) w top = absurd top
 
-pub parent_forth : (new made : Shown) (file : FileId) (v w : ℕ → ℕ) (p n : Name) → IsTree new → HasVersions new file v → Reversions new made file w → IsOther file n → IsParent new p n → IsParent made p n
+pub parent_forth : (new made : Shown) (file : FileId) (v w : ℕ → ℕ) (p n : Name) → IsTree new → HasVersions new file v → Reversions new made file w → IsOfOtherFile file n → IsParent new p n → IsParent made p n
 parent_forth new made file v w p n tree has rev other is =
     let o = other_parent new file v p n tree has is other in
     let s = whole file.0 w in

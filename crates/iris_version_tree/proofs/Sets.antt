@@ -15,7 +15,7 @@ use Rattle.iris_shape.proofs.FoldProofs.{folded_same, folded_even, folded_at, fo
 use Rattle.iris_cache.specs.declared.held.Held.{Held}
 use Rattle.iris_cache.specs.declared.draft.Change.{Change}
 use Rattle.iris_cache.specs.Rehash.{low_part, high_part}
-use Rattle.iris_cache.specs.Resident.{Resident, held}
+use Rattle.iris_cache.specs.Resident.{Resident, held_node}
 use Rattle.iris_cache.specs.Drafted.{Drafted, drafted, seen, known, known_by, there_by}
 use Rattle.iris_node.specs.Trees.{Shown}
 use Rattle.iris_cache.specs.Pictures.{SideHolds}
@@ -35,7 +35,7 @@ pub under_same : (old : Shown) (v w : ℕ → ℕ) (d : Drafted) (c : Resident) 
 under_same old v w d c file l i same u = record {
   parts = λ k j some h.
       let s = λ (p : ℕ) (q : IsUnder k j p). same p (sub l i k j p h q) in
-      subst (λ g. AtPart old c file k j g (drafted d (name.Part file k j)) (held c (name.Part file k j))) (folded_same v w k j s) (u.parts k j some h);
+      subst (λ g. AtPart old c file k j g (drafted d (name.Part file k j)) (held_node c (name.Part file k j))) (folded_same v w k j s) (u.parts k j some h);
 }
 
 pub side_same : (old : Shown) (v w : ℕ → ℕ) (c : Resident) (file : FileId) (l i : ℕ) (s : Side) → ((p : ℕ) → IsUnder l i p → v p ≡ w p) → SideAt old c file v l i s → SideAt old c file w l i s
@@ -46,7 +46,7 @@ pub under_even : (old : Shown) (v w : ℕ → ℕ) (d : Drafted) (c : Resident) 
 under_even old v w d c file l i x u e all under = record {
   parts = λ k j some h.
       let o = drafted d (name.Part file k j) in
-      let r = held c (name.Part file k j) in
+      let r = held_node c (name.Part file k j) in
       let a = folded_even v k j x (λ p q. folded_at v l i x p e (sub l i k j p h q)) in
       let b = folded_even w k j u (λ p q. all p (sub l i k j p h q)) in
       subst (λ g. AtPart old c file k j g o r) (sym b) (at_even old c file k j r x u o (subst (λ g. AtPart old c file k j g o r) a (under.parts k j some h)));
@@ -127,9 +127,9 @@ even_reached : (d : Drafted) (c : Resident) (file : FileId) (v : ℕ → ℕ) (k
 even_reached d c file v k j x s e g = subst (Reached d c file v k j) (sym e) (record { like = one_side (folded v k j) x g; linked = tt })
 
 -- what is reached of the halves
-pub half_reached : (old : Shown) (d : Drafted) (c : Resident) (file : FileId) (v : ℕ → ℕ) (k i : ℕ) (s low high : Side) → k < 16 → AtPart old c file (suc k) i (folded v (suc k) i) (drafted d (name.Part file (suc k) i)) (held c (name.Part file (suc k) i)) → IsSideOf (folded v (suc k) i) s
+pub half_reached : (old : Shown) (d : Drafted) (c : Resident) (file : FileId) (v : ℕ → ℕ) (k i : ℕ) (s low high : Side) → k < 16 → AtPart old c file (suc k) i (folded v (suc k) i) (drafted d (name.Part file (suc k) i)) (held_node c (name.Part file (suc k) i)) → IsSideOf (folded v (suc k) i) s
     → AreHalvesOf s (part_seen (seen d c (name.Part file (suc k) i))) low high → IsKnownBelow s (known d c (name.Part file (suc k) i)) → Reached d c file v k (2 * i) low × Reached d c file v k (2 * i + 1) high
-half_reached old d c file v k i s low high lt at like are known = elim (halved old c file v k i s low high (drafted d (name.Part file (suc k) i)) (held c (name.Part file (suc k) i)) at like are known) [
+half_reached old d c file v k i s low high lt at like are known = elim (halved old c file v k i s low high (drafted d (name.Part file (suc k) i)) (held_node c (name.Part file (suc k) i)) at like are known) [
   | inl e ↦ (even_reached d c file v k (2 * i) e.version low e.low_is e.low_one, even_reached d c file v k (2 * i + 1) e.version high e.high_is e.high_one)
   | inr p ↦ (
     record { like = subst (IsSideOf (folded v k (2 * i))) (sym p.low_is) p.like.low; linked = low_linked d c file v k i p.part low p.like lt p.is_seen (sym p.low_is) },

@@ -6,7 +6,7 @@ use Rattle.std.proofs.Math.Nat.{pow-succ', mul-le-mul_right}
 use Rattle.iris_name.specs.Names.{same_name}
 use Rattle.iris_name.specs.NameLaws.{same_name-true}
 use Rattle.iris_name.specs.declared.name.Name.{Name}
-use Rattle.iris_shape.specs.FoldLaws.{IsUnder, changed}
+use Rattle.iris_shape.specs.FoldLaws.{IsUnder, with_range_set}
 use Rattle.iris_version_tree.specs.Ranges.{Within}
 use Rattle.iris_version_tree.proofs.Levels.{pow-pos, step}
 
@@ -22,14 +22,14 @@ not_same n m h = go (same_name n m) refl
     go false e = refl
 
 -- outside of the range the versions stay
-pub changed-out : (v : ℕ → ℕ) (low high w l i : ℕ) → ((i + 1) * 2 ^ l ≤ low) ⊎ (high ≤ i * 2 ^ l) → (p : ℕ) → IsUnder l i p → v p ≡ changed v low high w p
-unfolding changed
+pub changed-out : (v : ℕ → ℕ) (low high w l i : ℕ) → ((i + 1) * 2 ^ l ≤ low) ⊎ (high ≤ i * 2 ^ l) → (p : ℕ) → IsUnder l i p → v p ≡ with_range_set v low high w p
+unfolding with_range_set
 changed-out v low high w l i (inl h) p u = let a : p < low = omega (arith, u.to) in grind (arith, common_steps)
 changed-out v low high w l i (inr h) p u = let a : high ≤ p = omega (arith, u.from) in grind (arith, common_steps)
 
 -- inside they are the new one
-pub changed-in : (v : ℕ → ℕ) (low high w l i : ℕ) → low ≤ i * 2 ^ l → (i + 1) * 2 ^ l ≤ high → (p : ℕ) → IsUnder l i p → changed v low high w p ≡ w
-unfolding changed
+pub changed-in : (v : ℕ → ℕ) (low high w l i : ℕ) → low ≤ i * 2 ^ l → (i + 1) * 2 ^ l ≤ high → (p : ℕ) → IsUnder l i p → with_range_set v low high w p ≡ w
+unfolding with_range_set
 changed-in v low high w l i a b p u = let x : low ≤ p = omega (arith, u.from) in let y : p < high = omega (arith, u.to) in grind (arith, common_steps)
 
 same_by : (k i j : ℕ) → 0 < k → i * k ≤ j * k → (j + 1) * k ≤ (i + 1) * k → j ≡ i

@@ -10,13 +10,13 @@ use Rattle.iris_node.specs.declared.node.Side.TheVariants.{Fold as Same, Below}
 use Rattle.iris_shape.specs.Folds.{folded}
 use Rattle.iris_cache.specs.declared.held.Short.{Short}
 use Rattle.iris_cache.specs.declared.held.Short.TheVariants.{Need, NoMemory}
-use Rattle.iris_cache.specs.Resident.{Resident, held}
+use Rattle.iris_cache.specs.Resident.{Resident, held_node}
 use Rattle.iris_cache.specs.Drafted.{Drafted, drafted, seen, known, known_by, there_by}
 use Rattle.iris_node.specs.Trees.{Shown}
 use Rattle.iris_version_tree.specs.Needs.{Covers}
 use Rattle.iris_version_tree.specs.Sides.{part_seen, AreHalvesOf, IsNeedOf}
-use Rattle.iris_version_tree.specs.Reached.{IsOver, IsLinkedSide}
-use Rattle.iris_version_tree.specs.Ranges.{Within, IsWithin, Frame, AtPart, Under, IsKnownBelow, Missing, IsMissing, Joins, Turns}
+use Rattle.iris_version_tree.specs.Reached.{IsDirectlyOver, IsLinkedSide}
+use Rattle.iris_version_tree.specs.Ranges.{Within, IsPartWithin, Frame, AtPart, Under, IsKnownBelow, Missing, IsMissing, Joins, Turns}
 use Rattle.iris_version_tree.proofs.Levels.{pow-pos}
 use Rattle.iris_version_tree.proofs.Spans.{not_same, self, split, apart, up_low, up_high, down}
 use Rattle.iris_version_tree.proofs.Sets.{half_sides, half_reached}
@@ -34,11 +34,11 @@ other file l i k j h = not_same (name.Part file (suc l) i) (name.Part file k j) 
 -- parts within one, after a change elsewhere
 pub under_frame : (old : Shown) (v : ℕ → ℕ) (d e : Drafted) (c : Resident) (file : FileId) (l i : ℕ) → ((k j : ℕ) → Within l i k j → drafted e (name.Part file k j) ≡ drafted d (name.Part file k j)) → Under old v d c file l i → Under old v e c file l i
 under_frame old v d e c file l i same u = record {
-  parts = λ k j some h. subst (λ o. AtPart old c file k j (folded v k j) o (held c (name.Part file k j))) (sym (same k j h)) (u.parts k j some h);
+  parts = λ k j some h. subst (λ o. AtPart old c file k j (folded v k j) o (held_node c (name.Part file k j))) (sym (same k j h)) (u.parts k j some h);
 }
 
 known_same : (d e : Drafted) (c : Resident) (n : Name) → drafted e n ≡ drafted d n → known e c n ≡ known d c n
-known_same d e c n q = ap (λ o. known_by o (held c n)) q
+known_same d e c n q = ap (λ o. known_by o (held_node c n)) q
 
 module _ (old : Shown) (d d1 d2 d3 : Drafted) (c : Resident) (file : FileId) (v w : ℕ → ℕ) (k i : ℕ) (s low high a b made : Side) where
   set_step : AreHalvesOf s (part_seen (seen d c (name.Part file (suc k) i))) low high → IsKnownBelow s (known d c (name.Part file (suc k) i))
@@ -47,7 +47,7 @@ module _ (old : Shown) (d d1 d2 d3 : Drafted) (c : Resident) (file : FileId) (v 
       → Turns old d d3 c file v w (suc k) i s made
   set_step are there TA FA TB FB J F3 pic had u at =
       let n = name.Part file (suc k) i in
-      let r = held c n in
+      let r = held_node c n in
       let top = u.parts (suc k) i (omega arith) (self (suc k) i) in
       let sides = half_sides old c file v k i s low high (drafted d n) r top at.like are there in
       let left = TA pic had (record { parts = λ m j some h. u.parts m j some (up_low k i m j h) }) sides.0 in
@@ -59,15 +59,15 @@ module _ (old : Shown) (d d1 d2 d3 : Drafted) (c : Resident) (file : FileId) (v 
       let same = top2 ∙ top1 in
       let atop = subst (λ o. AtPart old c file (suc k) i (folded v (suc k) i) o r) (sym same) top in
       let made' = J k refl pic had atop at (subst (IsKnownBelow s) (sym (known_same d d2 c n same)) there) left.1 right.1 in
-      let Q : ℕ → ℕ → Type 0 = λ m j. AtPart old c file m j (folded w m j) (drafted d3 (name.Part file m j)) (held c (name.Part file m j)) in (
+      let Q : ℕ → ℕ → Type 0 = λ m j. AtPart old c file m j (folded w m j) (drafted d3 (name.Part file m j)) (held_node c (name.Part file m j)) in (
         record {
           parts = λ m j some h. elim (split k i m j h) [
             | inl e ↦ subst (λ m. Q m j) (sym e.0) (subst (λ j. Q (suc k) j) (sym e.1) made'.0)
             | inr x ↦ elim x [
               | inl h ↦ (let q = F3 (name.Part file m j) (other file k i m j h.level) ∙ FB (name.Part file m j) (λ q. apart k i m j h q.1) in
-                  subst (λ o. AtPart old c file m j (folded w m j) o (held c (name.Part file m j))) (sym q) (left.0.parts m j some h))
+                  subst (λ o. AtPart old c file m j (folded w m j) o (held_node c (name.Part file m j))) (sym q) (left.0.parts m j some h))
               | inr h ↦ (let q = F3 (name.Part file m j) (other file k i m j h.level) in
-                  subst (λ o. AtPart old c file m j (folded w m j) o (held c (name.Part file m j))) (sym q) (right.0.parts m j some h))
+                  subst (λ o. AtPart old c file m j (folded w m j) o (held_node c (name.Part file m j))) (sym q) (right.0.parts m j some h))
             ]
           ];
         },
@@ -78,15 +78,15 @@ module _ (old : Shown) (d d1 d2 d3 : Drafted) (c : Resident) (file : FileId) (v 
 frame_step : (d d1 d2 d3 : Drafted) (file : FileId) (k i : ℕ) → Frame d d1 file k (2 * i) → Frame d1 d2 file k (2 * i + 1)
     → ((n : Name) → same_name (name.Part file (suc k) i) n ≡ false → drafted d3 n ≡ drafted d2 n) → Frame d d3 file (suc k) i
 frame_step d d1 d2 d3 file k i FA FB F3 n out =
-    F3 n (not_same (name.Part file (suc k) i) n (λ e. out (subst (IsWithin file (suc k) i) e (refl, self (suc k) i, omega arith))))
+    F3 n (not_same (name.Part file (suc k) i) n (λ e. out (subst (IsPartWithin file (suc k) i) e (refl, self (suc k) i, omega arith))))
     ∙ FB n (λ q. out (up-high n q)) ∙ FA n (λ q. out (up-low n q))
   where
-    up-low : (n : Name) → IsWithin file k (2 * i) n → IsWithin file (suc k) i n
+    up-low : (n : Name) → IsPartWithin file k (2 * i) n → IsPartWithin file (suc k) i n
     up-low (name.Entry e) q = absurd q
     up-low (name.Part g m j) q = (q.0, up_low k i m j q.1, q.2)
     up-low (name.Block g p) q = absurd q
 
-    up-high : (n : Name) → IsWithin file k (2 * i + 1) n → IsWithin file (suc k) i n
+    up-high : (n : Name) → IsPartWithin file k (2 * i + 1) n → IsPartWithin file (suc k) i n
     up-high (name.Entry e) q = absurd q
     up-high (name.Part g m j) q = (q.0, up_high k i m j q.1, q.2)
     up-high (name.Block g p) q = absurd q
@@ -142,15 +142,15 @@ missing_here d c file l i (Below h) low high e some covers need none =
       reached = λ old v u r. r;
     })
 
-relink : (d e : Drafted) (c : Resident) (file : FileId) (l i : ℕ) (s : Side) → ((q : Name) → IsOver file l i q → drafted e q ≡ drafted d q) → IsLinkedSide d c file l i s → IsLinkedSide e c file l i s
+relink : (d e : Drafted) (c : Resident) (file : FileId) (l i : ℕ) (s : Side) → ((q : Name) → IsDirectlyOver file l i q → drafted e q ≡ drafted d q) → IsLinkedSide d c file l i s → IsLinkedSide e c file l i s
 relink d e c file l i (Same x) same h = tt
-relink d e c file l i (Below x) same h = record { parent = h.parent; node = h.node; is_seen = ap (λ o. there_by (known_by o (held c h.parent))) (same h.parent h.over) ∙ h.is_seen; holds = h.holds; over = h.over }
+relink d e c file l i (Below x) same h = record { parent = h.parent; node = h.node; is_seen = ap (λ o. there_by (known_by o (held_node c h.parent))) (same h.parent h.over) ∙ h.is_seen; holds = h.holds; over = h.over }
 
 -- what stands over a part of one half isn't within the other
-over_out : (file : FileId) (k i m j : ℕ) (q : Name) → IsOver file m j q → Within k (2 * i + 1) m j → IsWithin file k (2 * i) q → ⊥
-over_out file k i m j q (inl o) w h = subst (IsWithin file k (2 * i)) o.1 h
+over_out : (file : FileId) (k i m j : ℕ) (q : Name) → IsDirectlyOver file m j q → Within k (2 * i + 1) m j → IsPartWithin file k (2 * i) q → ⊥
+over_out file k i m j q (inl o) w h = subst (IsPartWithin file k (2 * i)) o.1 h
 over_out file k i m j q (inr o) w h =
-    let x = subst (IsWithin file k (2 * i)) o.2 h in
+    let x = subst (IsPartWithin file k (2 * i)) o.2 h in
     apart k i m j (down k (2 * i) m o.0 j x.1 o.3) w
 
 -- a part under the lower half is missing

@@ -13,16 +13,16 @@ use Rattle.iris_node.specs.Fields.{EntryFields, PartFields}
 use Rattle.iris_node.specs.Unfolded.{Unfolded, Absent, Folder, Leaf, Even, Split, Stored, id_of}
 use Rattle.iris_node.specs.Local.{even, even_by, local, entry_local}
 use Rattle.iris_shape.specs.Folds.{Fold, One, Two, folded}
-use Rattle.iris_shape.specs.Sides.{side, part_of}
+use Rattle.iris_shape.specs.Sides.{unfolded_side, part_of}
 use Rattle.iris_shape.proofs.FoldProofs.{folded_halves}
 use Rattle.iris_node.specs.Trees.{Shown, node_name, IsParent}
 use Rattle.iris_cache.specs.Pictures.{IsLike}
 use Rattle.iris_version_tree.specs.Versions.{HasVersions, IsFileOf, places}
 use Rattle.iris_version_tree.specs.Sides.{side_of_body}
-use Rattle.iris_version_tree.specs.Reached.{IsTwo, IsSideOf, IsOver}
+use Rattle.iris_version_tree.specs.Reached.{IsTwo, IsSideOf, IsDirectlyOver}
 use Rattle.iris_version_tree.proofs.Levels.{fits_up, only_top}
 
-pub side_of : (f l i : ℕ) (g : Fold) (s : Side) → even (side f l i g) ≡ even_by s → IsSideOf g s
+pub side_of : (f l i : ℕ) (g : Fold) (s : Side) → even (unfolded_side f l i g) ≡ even_by s → IsSideOf g s
 side_of f l i (One v) (Same w) h = cc
 side_of f l i (One v) (Below x) h = cc
 side_of f l i (Two a b) (Same w) h = cc
@@ -58,8 +58,8 @@ like_part file v k i p (Two a b) e h =
     let fe : file.0 ≡ p.file.0 = cc in
     let le : suc k ≡ p.level = cc in
     let ie : i ≡ p.index = cc in
-    let lo : even (side file.0 (suc k - 1) (2 * i) a) ≡ even_by p.low = cc in
-    let hi : even (side file.0 (suc k - 1) (2 * i + 1) b) ≡ even_by p.high = cc in
+    let lo : even (unfolded_side file.0 (suc k - 1) (2 * i) a) ≡ even_by p.low = cc in
+    let hi : even (unfolded_side file.0 (suc k - 1) (2 * i + 1) b) ≡ even_by p.high = cc in
     let P : Side → Fold → Type 0 = λ s g. IsSideOf g s in
     record {
       file_is = ap id_of (sym fe);
@@ -93,7 +93,7 @@ pub record LikeTop (file : ℕ) (g : Fold) (e : EntryFields) (s : Side) : Type 0
   pub like : IsSideOf g s
 
 top_body : (f : ℕ) (g : Fold) (e : EntryFields) (b : Body) (s : Side) (id : ℕ) (label : _) (less more : Unfolded) (size counter : ℕ) (kept : Unfolded)
-    → id ≡ f → kept ≡ side f 16 0 g → local (Leaf id label less more size counter kept) ≡ Some (entry_local e b) → side_of_body b ≡ Some s → LikeTop f g e s
+    → id ≡ f → kept ≡ unfolded_side f 16 0 g → local (Leaf id label less more size counter kept) ≡ Some (entry_local e b) → side_of_body b ≡ Some s → LikeTop f g e s
 top_body f g e (Dir top) s id label less more size counter kept fe ke h is = cc
 top_body f g e (File n k versions) s id label less more size counter kept fe ke h is =
     let ie : id ≡ e.id.0 = cc in
@@ -101,7 +101,7 @@ top_body f g e (File n k versions) s id label less more size counter kept fe ke 
     let se : versions ≡ s = cc in
     record { id_is = sym ie ∙ fe; like = side_of f 16 0 g s (sym (ap even ke) ∙ ve ∙ ap even_by se) }
 
-pub like_top : (o : Option Unfolded) (f : ℕ) (g : Fold) (e : EntryFields) (s : Side) → IsFileOf f (side f 16 0 g) o → IsLike o (node.Entry e) → side_of_body e.body ≡ Some s → LikeTop f g e s
+pub like_top : (o : Option Unfolded) (f : ℕ) (g : Fold) (e : EntryFields) (s : Side) → IsFileOf f (unfolded_side f 16 0 g) o → IsLike o (node.Entry e) → side_of_body e.body ≡ Some s → LikeTop f g e s
 like_top None f g e s at like is = absurd at
 like_top (Some (Leaf id label less more size counter kept)) f g e s at like is = top_body f g e e.body s id label less more size counter kept at.0 at.1 like is
 like_top (Some (Folder id label less more inside)) f g e s at like is = absurd at
@@ -112,11 +112,11 @@ like_top (Some (Stored w bytes)) f g e s at like is = absurd at
 
 -- ---- parents
 
-side_name : (f l i : ℕ) (g : Fold) → IsTwo g → node_name (side f l i g) ≡ Some (name.Part (id_of f) l i)
+side_name : (f l i : ℕ) (g : Fold) → IsTwo g → node_name (unfolded_side f l i g) ≡ Some (name.Part (id_of f) l i)
 side_name f l i (One v) h = absurd h
 side_name f l i (Two a b) h = refl
 
-top_parent : (t : Shown) (file : FileId) (g : Fold) (o : Option Unfolded) → t (name.Entry file) ≡ o → IsFileOf file.0 (side file.0 16 0 g) o → IsTwo g → IsParent t (name.Entry file) (name.Part file 16 0)
+top_parent : (t : Shown) (file : FileId) (g : Fold) (o : Option Unfolded) → t (name.Entry file) ≡ o → IsFileOf file.0 (unfolded_side file.0 16 0 g) o → IsTwo g → IsParent t (name.Entry file) (name.Part file 16 0)
 top_parent t file g None e at two = absurd at
 top_parent t file g (Some (Leaf id label less more size counter kept)) e at two =
     record { parent = Leaf id label less more size counter kept; child = kept; live = e; above = inr (inr refl); named = ap node_name at.1 ∙ side_name file.0 16 0 g two }
@@ -138,8 +138,8 @@ module _ (t : Shown) (file : FileId) (v : ℕ → ℕ) (has : HasVersions t file
       let e = two_above v l j (inl two) in
       let z : suc l - 1 ≡ l = omega arith in
       record {
-        parent = side file.0 (suc l) j (Two (folded v l (2 * j)) (folded v l (2 * j + 1)));
-        child = side file.0 (suc l - 1) (2 * j) (folded v l (2 * j));
+        parent = unfolded_side file.0 (suc l) j (Two (folded v l (2 * j)) (folded v l (2 * j + 1)));
+        child = unfolded_side file.0 (suc l - 1) (2 * j) (folded v l (2 * j));
         live = has.parts (suc l) j fits ∙ ap (part_of file.0 (suc l) j) e;
         above = inl refl;
         named = side_name file.0 (suc l - 1) (2 * j) (folded v l (2 * j)) two ∙ ap (λ k. Some (name.Part file k (2 * j))) z;
@@ -150,15 +150,15 @@ module _ (t : Shown) (file : FileId) (v : ℕ → ℕ) (has : HasVersions t file
       let e = two_above v l j (inr two) in
       let z : suc l - 1 ≡ l = omega arith in
       record {
-        parent = side file.0 (suc l) j (Two (folded v l (2 * j)) (folded v l (2 * j + 1)));
-        child = side file.0 (suc l - 1) (2 * j + 1) (folded v l (2 * j + 1));
+        parent = unfolded_side file.0 (suc l) j (Two (folded v l (2 * j)) (folded v l (2 * j + 1)));
+        child = unfolded_side file.0 (suc l - 1) (2 * j + 1) (folded v l (2 * j + 1));
         live = has.parts (suc l) j fits ∙ ap (part_of file.0 (suc l) j) e;
         above = inr refl;
         named = side_name file.0 (suc l - 1) (2 * j + 1) (folded v l (2 * j + 1)) two ∙ ap (λ k. Some (name.Part file k (2 * j + 1))) z;
       }
 
 -- the parent of a live part
-pub part_parent : (t : Shown) (file : FileId) (v : ℕ → ℕ) (l i : ℕ) (q : Name) → HasVersions t file v → IsOver file l i q → (i + 1) * 2 ^ l ≤ places → IsTwo (folded v l i) → IsParent t q (name.Part file l i)
+pub part_parent : (t : Shown) (file : FileId) (v : ℕ → ℕ) (l i : ℕ) (q : Name) → HasVersions t file v → IsDirectlyOver file l i q → (i + 1) * 2 ^ l ≤ places → IsTwo (folded v l i) → IsParent t q (name.Part file l i)
 part_parent t file v l i q has (inl o) fits two =
     let z = only_top l i o.0 fits in
     let T : ℕ → ℕ → Type 0 = λ l i. IsTwo (folded v l i) in

@@ -30,7 +30,7 @@ use Rattle.iris_cache.proofs.Lacking.{parent_resident, unknown}
 use Rattle.iris_cache.specs.Needs.{IsTrueNeed, IsExpected}
 use Rattle.iris_version_tree.specs.Versions.{Versioned, HasVersions, places}
 use Rattle.iris_version_tree.specs.Needs.{Lacks, IsLack, IsFirstLack, AreHoles}
-use Rattle.iris_version_tree.specs.Sides.{part_seen, side_seen, side_of_body, toward}
+use Rattle.iris_version_tree.specs.Sides.{part_seen, side_seen, side_of_body, side_toward}
 use Rattle.iris_version_tree.specs.Reached.{IsTwo, IsSideOf, IsLinkedSide, Reached}
 use Rattle.iris_version_tree.proofs.Levels.{over, div_step}
 use Rattle.iris_version_tree.proofs.Tables.{LikePart, LikeTop, part_like, never_entry, like_top, below_two, part_parent}
@@ -144,7 +144,7 @@ part_is (Some (node.Entry x)) p e = cc
 part_is (Some (node.Part x)) p e = let q : x ≡ p = cc in ap (λ y. Some (node.Part y)) q
 
 pub step_down : (old new : Shown) (d : Drafted) (c : Resident) (file : FileId) (v : ℕ → ℕ) (place k n : ℕ) (p : PartFields) → n ≡ suc k → Versioned old new file v d c → k < 16 → (place / 2 ^ n + 1) * 2 ^ n ≤ places
-    → Some p ≡ part_seen (seen d c (name.Part file n (place / 2 ^ n))) → Reached d c file v k (place / 2 ^ k) (toward ((place / 2 ^ k) % 2) p)
+    → Some p ≡ part_seen (seen d c (name.Part file n (place / 2 ^ n))) → Reached d c file v k (place / 2 ^ k) (side_toward ((place / 2 ^ k) % 2) p)
 step_down old new d c file v place k n p e pic lt fits at =
     let j = (place / 2 ^ k) / 2 in
     let r = (place / 2 ^ k) % 2 in
@@ -156,7 +156,7 @@ step_down old new d c file v place k n p e pic lt fits at =
     let h = reached_halves old new d c file v k j p pic lt fits' (part_is (seen d c (name.Part file (suc k) j)) p at') in
     let Q : ℕ → Side → Type 0 = λ i s. Reached d c file v k i s in
     let z : 2 * j + r ≡ place / 2 ^ k = omega arith in
-    subst (λ i. Q i (toward r p)) z (choose Q p j r _ refl (omega arith) h.1 h.2)
+    subst (λ i. Q i (side_toward r p)) z (choose Q p j r _ refl (omega arith) h.1 h.2)
 
 -- where a part is reached, it is seen or missing
 no_part_by : (file : FileId) (t : Shown) (v : ℕ → ℕ) (l i : ℕ) (x : Option (Option Node)) → IsSome x → part_seen (there_by x) ≡ None → HasVersions t file v → (i + 1) * 2 ^ l ≤ places → IsTwo (folded v l i)

@@ -18,21 +18,21 @@ use Rattle.iris_node.specs.Fields.{EntryFields}
 use Rattle.iris_node.specs.Unfolded.{Unfolded, Absent, Folder, Leaf, Even, Split, Stored, id_of}
 use Rattle.iris_node.specs.Local.{local, local_of}
 use Rattle.iris_shape.specs.Folds.{Fold, One, Two, folded}
-use Rattle.iris_shape.specs.Sides.{side, part_of}
+use Rattle.iris_shape.specs.Sides.{unfolded_side, part_of}
 use Rattle.iris_shape.proofs.FoldProofs.{folded-zero}
 use Rattle.iris_cache.specs.declared.held.Held.{Held}
 use Rattle.iris_cache.specs.declared.draft.Change.{Change}
 use Rattle.iris_cache.specs.Rehash.{whole_part}
-use Rattle.iris_cache.specs.Resident.{Resident, held}
+use Rattle.iris_cache.specs.Resident.{Resident, held_node}
 use Rattle.iris_cache.specs.Drafted.{Drafted, drafted, seen, known, known_by, there_by, set_to}
 use Rattle.iris_node.specs.Trees.{Shown, node_name, IsTree, IsParent, IsNodeName}
 use Rattle.iris_cache.specs.Pictures.{Pictures, parent_after, parent_by, IsLike, Drafts, Holds, SideHolds, BodyHolds, WasHash}
 use Rattle.iris_cache.proofs.Lacking.{unknown}
-use Rattle.iris_version_tree.specs.Versions.{Versioned, HasVersions, Reversions, IsOther, whole, reversioned, places}
+use Rattle.iris_version_tree.specs.Versions.{Versioned, HasVersions, Reversions, IsOfOtherFile, whole, reversioned, places}
 use Rattle.iris_version_tree.specs.Needs.{IsFileNode, IsFileBody, HasEntryWith}
 use Rattle.iris_version_tree.specs.Sides.{entry_with, body_with, side_seen, side_of_body}
-use Rattle.iris_version_tree.specs.Reached.{IsTwo, IsOver}
-use Rattle.iris_version_tree.specs.Ranges.{Within, IsWithin, Frame, Under, SideAt}
+use Rattle.iris_version_tree.specs.Reached.{IsTwo, IsDirectlyOver}
+use Rattle.iris_version_tree.specs.Ranges.{Within, IsPartWithin, Frame, Under, SideAt}
 use Rattle.iris_version_tree.proofs.Levels.{fits_up}
 use Rattle.iris_version_tree.proofs.Tables.{part_parent, two_above, like_top}
 use Rattle.iris_version_tree.proofs.Spans.{not_same}
@@ -47,12 +47,12 @@ use Rattle.iris_version_tree.proofs.Plans.{none_of, parent_back, parent_forth, o
 pub record IsWritten (old : Shown) (d e : Drafted) (c : Resident) (file : FileId) (w : ℕ → ℕ) (s : Side) (x : EntryFields) : Type 0 where
   pub under : Under old w e c file 16 0
   pub side : SideAt old c file w 16 0 s
-  pub kept : (n : Name) → (IsWithin file 16 0 n → ⊥) → (n ≡ name.Entry file → ⊥) → drafted e n ≡ drafted d n
+  pub kept : (n : Name) → (IsPartWithin file 16 0 n → ⊥) → (n ≡ name.Entry file → ⊥) → drafted e n ≡ drafted d n
   pub was : seen d c (name.Entry file) ≡ Some (node.Entry x)
   pub id : x.id ≡ file
   pub is : seen e c (name.Entry file) ≡ Some (node.Entry (entry_with s x))
   pub over : parent_after e c (name.Entry file) ≡ parent_after d c (name.Entry file)
-  pub resident : (y : Change) → drafted e (name.Entry file) ≡ Some y → IsSome (held c (name.Entry file)) ⊎ (old (name.Entry file) ≡ None)
+  pub resident : (y : Change) → drafted e (name.Entry file) ≡ Some y → IsSome (held_node c (name.Entry file)) ⊎ (old (name.Entry file) ≡ None)
 
 entry_id : Name → ℕ
 entry_id (name.Entry id) = id.0
@@ -65,11 +65,11 @@ IsPart file n = (l : ℕ) × (i : ℕ) × (n ≡ name.Part file l i) × (1 ≤ l
 
 -- a name that isn't the file's, or is no part at all
 pub record IsKept (file : FileId) (new made : Shown) (n : Name) : Type 0 where
-  pub outside : IsWithin file 16 0 n → ⊥
+  pub outside : IsPartWithin file 16 0 n → ⊥
   pub entry : n ≡ name.Entry file → ⊥
-  pub like : (m : Node) → IsLike (new n) m → IsOther file n × IsLike (made n) m
+  pub like : (m : Node) → IsLike (new n) m → IsOfOtherFile file n × IsLike (made n) m
   pub gone : IsNodeName n → new n ≡ None → made n ≡ None
-  pub away : IsNodeName n → (made n ≡ new n) ⊎ IsOther file n
+  pub away : IsNodeName n → (made n ≡ new n) ⊎ IsOfOtherFile file n
 
 like_some : (o : Option Unfolded) (m : Node) → IsLike o m → (u : Unfolded) × (o ≡ Some u) × (local u ≡ Some (local_of m))
 like_some None m h = absurd h
@@ -125,7 +125,7 @@ module _ (new made : Shown) (file : FileId) (v w : ℕ → ℕ) (tree : IsTree n
       }
 
   -- another name
-  kept_other : (n : Name) → IsOther file n → (n ≡ name.Entry file → ⊥) → (IsWithin file 16 0 n → ⊥) → IsKept file new made n
+  kept_other : (n : Name) → IsOfOtherFile file n → (n ≡ name.Entry file → ⊥) → (IsPartWithin file 16 0 n → ⊥) → IsKept file new made n
   kept_other n other entry outside = record {
     outside = outside;
     entry = entry;
@@ -176,19 +176,19 @@ seen_there : (d : Drafted) (c : Resident) (n : Name) (m : Node) (x : Option (Opt
 seen_there d c n m x ke none at = let e : seen d c n ≡ None = ap there_by ke ∙ none in cc
 
 pub seen_same : (d e : Drafted) (c : Resident) (n : Name) → drafted e n ≡ drafted d n → seen e c n ≡ seen d c n
-seen_same d e c n h = ap (λ o. there_by (known_by o (held c n))) h
+seen_same d e c n h = ap (λ o. there_by (known_by o (held_node c n))) h
 
 known_same : (d e : Drafted) (c : Resident) (n : Name) → drafted e n ≡ drafted d n → known e c n ≡ known d c n
-known_same d e c n h = ap (λ o. known_by o (held c n)) h
+known_same d e c n h = ap (λ o. known_by o (held_node c n)) h
 
 above_same : (d e : Drafted) (c : Resident) (n : Name) → drafted e n ≡ drafted d n → parent_after e c n ≡ parent_after d c n
-above_same d e c n h = ap (λ o. parent_by o (held c n)) h
+above_same d e c n h = ap (λ o. parent_by o (held_node c n)) h
 
 body_hash : (s : Side) (id : FileId) (b : Body) (k : Name) (h : Hash32) → BodyHolds id (body_with s b) k h → BodyHolds id b k h ⊎ SideHolds (whole_part id) s k h
 body_hash s id (Dir top) k h holds = inl holds
 body_hash s id (File n m versions) k h holds = inr holds
 
-side_name : (f l i : ℕ) (g : Fold) → IsTwo g → node_name (side f l i g) ≡ Some (name.Part (id_of f) l i)
+side_name : (f l i : ℕ) (g : Fold) → IsTwo g → node_name (unfolded_side f l i g) ≡ Some (name.Part (id_of f) l i)
 side_name f l i (One v) h = absurd h
 side_name f l i (Two a b) h = refl
 
@@ -199,8 +199,8 @@ over_part t file w l i j live (inl e) two =
     let g = two_above w l j (inl two') in
     let z : suc l - 1 ≡ l = omega arith in
     subst (λ i. IsParent t (name.Part file (suc l) j) (name.Part file l i)) (sym e) (record {
-      parent = side file.0 (suc l) j (Two (folded w l (2 * j)) (folded w l (2 * j + 1)));
-      child = side file.0 (suc l - 1) (2 * j) (folded w l (2 * j));
+      parent = unfolded_side file.0 (suc l) j (Two (folded w l (2 * j)) (folded w l (2 * j + 1)));
+      child = unfolded_side file.0 (suc l - 1) (2 * j) (folded w l (2 * j));
       live = sym live ∙ ap (part_of file.0 (suc l) j) g;
       above = inl refl;
       named = side_name file.0 (suc l - 1) (2 * j) (folded w l (2 * j)) two' ∙ ap (λ k. Some (name.Part file k (2 * j))) z;
@@ -210,15 +210,15 @@ over_part t file w l i j live (inr e) two =
     let g = two_above w l j (inr two') in
     let z : suc l - 1 ≡ l = omega arith in
     subst (λ i. IsParent t (name.Part file (suc l) j) (name.Part file l i)) (sym e) (record {
-      parent = side file.0 (suc l) j (Two (folded w l (2 * j)) (folded w l (2 * j + 1)));
-      child = side file.0 (suc l - 1) (2 * j + 1) (folded w l (2 * j + 1));
+      parent = unfolded_side file.0 (suc l) j (Two (folded w l (2 * j)) (folded w l (2 * j + 1)));
+      child = unfolded_side file.0 (suc l - 1) (2 * j + 1) (folded w l (2 * j + 1));
       live = sym live ∙ ap (part_of file.0 (suc l) j) g;
       above = inr refl;
       named = side_name file.0 (suc l - 1) (2 * j + 1) (folded w l (2 * j + 1)) two' ∙ ap (λ k. Some (name.Part file k (2 * j + 1))) z;
     })
 
 -- a part that is seen can't stand under one that is missing
-orphan : (old : Shown) (e : Drafted) (c : Resident) (n q : Name) (m : Node) (o : Option Change) (r : Option Held) → Pictures old c → IsTree old → IsParent old q n → held c q ≡ None → held c n ≡ r → there_by (known_by o r) ≡ Some m
+orphan : (old : Shown) (e : Drafted) (c : Resident) (n q : Name) (m : Node) (o : Option Change) (r : Option Held) → Pictures old c → IsTree old → IsParent old q n → held_node c q ≡ None → held_node c n ≡ r → there_by (known_by o r) ≡ Some m
     → ((y : Change) → o ≡ Some y → IsSome r ⊎ (old n ≡ None)) → ⊥
 orphan old e c n q m o (Some h) pic tree parent none he at resident =
     let p = (pic.parents n q h he parent).1 in
@@ -250,7 +250,7 @@ module _ (old new made : Shown) (file : FileId) (v w : ℕ → ℕ) (d e : Draft
   was : (n : Name) (m : Node) → IsKept file new made n → seen e c n ≡ Some m → seen d c n ≡ Some m
   was n m k at = sym (seen_same d e c n (same n k)) ∙ at
 
-  is_other : (n : Name) (m : Node) → IsKept file new made n → seen e c n ≡ Some m → IsOther file n
+  is_other : (n : Name) (m : Node) → IsKept file new made n → seen e c n ≡ Some m → IsOfOtherFile file n
   is_other n m k at = (k.like m (pic.drafts.nodes n m (was n m k at))).0
 
   nodes_after : (n : Name) (m : Node) → seen e c n ≡ Some m → IsLike (made n) m
@@ -285,8 +285,8 @@ module _ (old new made : Shown) (file : FileId) (v w : ℕ → ℕ) (d e : Draft
       (λ n kept k m h at holds. pic.drafts.hashes n k m h (was n m kept at) holds)
 
   -- what is no part of the file is seen as before
-  seen_after : (p : Name) → IsOther file p → IsSome (seen d c p) → IsSome (seen e c p)
-  seen_after = by_kind (λ p. IsOther file p → IsSome (seen d c p) → IsSome (seen e c p))
+  seen_after : (p : Name) → IsOfOtherFile file p → IsSome (seen d c p) → IsSome (seen e c p)
+  seen_after = by_kind (λ p. IsOfOtherFile file p → IsSome (seen d c p) → IsSome (seen e c p))
       (λ o there. is_there (seen e c (name.Entry file)) (node.Entry (entry_with s x)) wr.is)
       (λ l i some h o there. absurd (o refl))
       (λ n k o there. (let P : Option Node → Type 0 = λ o. IsSome o in subst P (sym (seen_same d e c n (same n k))) there))
@@ -299,10 +299,10 @@ module _ (old new made : Shown) (file : FileId) (v w : ℕ → ℕ) (d e : Draft
       let q = wr.under.parts (suc l) j (omega arith) up in
       let n = wr.under.parts l i some h in
       let parent = over_part old file w l i j (q.away ke) half two in
-      absurd (orphan old e c (name.Part file l i) (name.Part file (suc l) j) m (drafted e (name.Part file l i)) (held c (name.Part file l i)) pic.drafts.before pic.was parent (unknown e c (name.Part file (suc l) j) ke).1 refl at n.resident)
+      absurd (orphan old e c (name.Part file l i) (name.Part file (suc l) j) m (drafted e (name.Part file l i)) (held_node c (name.Part file l i)) pic.drafts.before pic.was parent (unknown e c (name.Part file (suc l) j) ke).1 refl at n.resident)
 
   -- the part or entry over a part that is seen is seen
-  over_seen : (l i : ℕ) (q : Name) (m : Node) → 1 ≤ l → Within 16 0 l i → IsOver file l i q → IsTwo (folded w l i) → seen e c (name.Part file l i) ≡ Some m → IsSome (seen e c q)
+  over_seen : (l i : ℕ) (q : Name) (m : Node) → 1 ≤ l → Within 16 0 l i → IsDirectlyOver file l i q → IsTwo (folded w l i) → seen e c (name.Part file l i) ≡ Some m → IsSome (seen e c q)
   over_seen l i q m some h (inl o) two at = let P : Name → Type 0 = λ q. IsSome (seen e c q) in subst P (sym o.1) (is_there (seen e c (name.Entry file)) (node.Entry (entry_with s x)) wr.is)
   over_seen l i q m some h (inr o) two at =
       let j = o.0 in
@@ -370,8 +370,8 @@ module _ (old new made : Shown) (file : FileId) (v w : ℕ → ℕ) (d e : Draft
         | inr h ↦ rev.others n h ∙ stays_by n (new n) refl kd ∙ pic.drafts.away n is kd
       ])
 
-  resident_after : (n : Name) (y : Change) → drafted e n ≡ Some y → IsSome (held c n) ⊎ (old n ≡ None)
-  resident_after = by_kind (λ n. (y : Change) → drafted e n ≡ Some y → IsSome (held c n) ⊎ (old n ≡ None))
+  resident_after : (n : Name) (y : Change) → drafted e n ≡ Some y → IsSome (held_node c n) ⊎ (old n ≡ None)
+  resident_after = by_kind (λ n. (y : Change) → drafted e n ≡ Some y → IsSome (held_node c n) ⊎ (old n ≡ None))
       wr.resident
       (λ l i some h. (wr.under.parts l i some h).resident)
       (λ n k y at. pic.drafts.resident n y (sym (same n k) ∙ at))
@@ -419,8 +419,8 @@ module _ (old new : Shown) (file : FileId) (v w : ℕ → ℕ) (d d1 : Drafted) 
   entry_kept : drafted d1 (name.Entry file) ≡ drafted d (name.Entry file)
   entry_kept = frame (name.Entry file) (λ q. q)
 
-  resident_is : IsSome (held c (name.Entry file)) ⊎ (old (name.Entry file) ≡ None)
-  resident_is = entry_resident (held c (name.Entry file)) (drafted d (name.Entry file)) (node.Entry x) (old (name.Entry file) ≡ None) was (pic.drafts.resident (name.Entry file))
+  resident_is : IsSome (held_node c (name.Entry file)) ⊎ (old (name.Entry file) ≡ None)
+  resident_is = entry_resident (held_node c (name.Entry file)) (drafted d (name.Entry file)) (node.Entry x) (old (name.Entry file) ≡ None) was (pic.drafts.resident (name.Entry file))
 
   -- the side of all versions stayed
   pub left : t ≡ s → IsWritten old d d1 c file w t x
@@ -446,8 +446,8 @@ module _ (old new : Shown) (file : FileId) (v w : ℕ → ℕ) (d d1 : Drafted) 
         kept = λ n out isnt. same n (not_same (name.Entry file) n (λ q. isnt (sym q))) ∙ frame n out;
         was = was;
         id = id_is;
-        is = ap (λ o. there_by (known_by o (held c (name.Entry file)))) at;
-        over = ap (λ o. parent_by o (held c (name.Entry file))) at ∙ above_same d d1 c (name.Entry file) entry_kept;
+        is = ap (λ o. there_by (known_by o (held_node c (name.Entry file)))) at;
+        over = ap (λ o. parent_by o (held_node c (name.Entry file))) at ∙ above_same d d1 c (name.Entry file) entry_kept;
         resident = λ y z. resident_is;
       }
 
@@ -470,7 +470,7 @@ module _ (file : FileId) (d d1 : Drafted) (c : Resident) (s t : Side) (is : side
       → (x : EntryFields) → seen d c (name.Entry file) ≡ Some (node.Entry x) → HasEntryWith e c file x
   set_entry e entry x was =
       let at = entry x (seen_same d d1 c (name.Entry file) (frame (name.Entry file) (λ q. q)) ∙ was) in
-      (t, ap (λ o. there_by (known_by o (held c (name.Entry file)))) at)
+      (t, ap (λ o. there_by (known_by o (held_node c (name.Entry file)))) at)
 
 pub file_after : (file : FileId) (d e : Drafted) (c : Resident) → IsFileNode (seen d c (name.Entry file)) → ((x : EntryFields) → seen d c (name.Entry file) ≡ Some (node.Entry x) → HasEntryWith e c file x) → IsFileNode (seen e c (name.Entry file))
 file_after file d e c h f =
@@ -479,5 +479,5 @@ file_after file d e c h f =
     file_kept x.0 r.0 (seen d c (name.Entry file)) (seen e c (name.Entry file)) x.1 h r.1
 
 pub others_after : (file : FileId) (d d1 e : Drafted) → Frame d d1 file 16 0 → ((n : Name) → same_name (name.Entry file) n ≡ false → drafted e n ≡ drafted d1 n)
-    → (n : Name) → (IsWithin file 16 0 n → ⊥) → (n ≡ name.Entry file → ⊥) → drafted e n ≡ drafted d n
+    → (n : Name) → (IsPartWithin file 16 0 n → ⊥) → (n ≡ name.Entry file → ⊥) → drafted e n ≡ drafted d n
 others_after file d d1 e frame same n out isnt = same n (not_same (name.Entry file) n (λ q. isnt (sym q))) ∙ frame n out

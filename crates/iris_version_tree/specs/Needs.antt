@@ -15,7 +15,7 @@ use Rattle.iris_shape.specs.FoldLaws.{IsUnder}
 use Rattle.iris_cache.specs.declared.held.Short.{Short}
 use Rattle.iris_cache.specs.declared.held.Short.TheVariants.{Need, NoMemory}
 use Rattle.iris_cache.specs.Needs.{IsTrueNeed}
-use Rattle.iris_cache.specs.Resident.{Resident, held}
+use Rattle.iris_cache.specs.Resident.{Resident, held_node}
 use Rattle.iris_cache.specs.Drafted.{Drafted, drafted, seen}
 use Rattle.iris_node.specs.Trees.{Shown}
 use Rattle.iris_version_tree.specs.Versions.{Versioned, places}
@@ -54,7 +54,7 @@ IsPartOver file low high (name.Block g place) = ⊥
 pub record Lacks (d : Drafted) (c : Resident) (file : FileId) (low high : ℕ) (n : Name) (x : Expect) : Type 0 where
   pub over : IsPartOver file low high n
   pub unset : drafted d n ≡ None
-  pub absent : held c n ≡ None
+  pub absent : held_node c n ≡ None
   pub needed : (old new : Shown) (v : ℕ → ℕ) → Versioned old new file v d c → IsTrueNeed old new c n x
 
 -- why a plan that takes no memory stops: it lacks a part

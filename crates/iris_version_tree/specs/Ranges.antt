@@ -17,13 +17,13 @@ use Rattle.iris_cache.specs.declared.held.Held.{Held}
 use Rattle.iris_cache.specs.declared.held.Short.{Short}
 use Rattle.iris_cache.specs.declared.held.Short.TheVariants.{Need, NoMemory}
 use Rattle.iris_cache.specs.declared.draft.Change.{Change}
-use Rattle.iris_cache.specs.Resident.{Resident, held}
+use Rattle.iris_cache.specs.Resident.{Resident, held_node}
 use Rattle.iris_cache.specs.Drafted.{Drafted, drafted, known, known_by, there_by}
 use Rattle.iris_node.specs.Trees.{Shown}
 use Rattle.iris_cache.specs.Pictures.{Pictures, parent_by, Holds, WasHash}
 use Rattle.iris_version_tree.specs.Needs.{Covers}
 use Rattle.iris_version_tree.specs.Versions.{HadVersions}
-use Rattle.iris_version_tree.specs.Reached.{IsTwo, IsSideOf, IsOver, Reached}
+use Rattle.iris_version_tree.specs.Reached.{IsTwo, IsSideOf, IsDirectlyOver, Reached}
 
 -- the part of level k and index j lies in the range of that of level l and index i
 pub record Within (l i k j : ℕ) : Type 0 where
@@ -31,14 +31,14 @@ pub record Within (l i k j : ℕ) : Type 0 where
   pub from : i * 2 ^ l ≤ j * 2 ^ k
   pub to : (j + 1) * 2 ^ k ≤ (i + 1) * 2 ^ l
 
-abbrev pub IsWithin : FileId → ℕ → ℕ → Name → Type 0
-IsWithin file l i (name.Entry e) = ⊥
-IsWithin file l i (name.Block g p) = ⊥
-IsWithin file l i (name.Part g k j) = (g ≡ file) × Within l i k j × (1 ≤ k)
+abbrev pub IsPartWithin : FileId → ℕ → ℕ → Name → Type 0
+IsPartWithin file l i (name.Entry e) = ⊥
+IsPartWithin file l i (name.Block g p) = ⊥
+IsPartWithin file l i (name.Part g k j) = (g ≡ file) × Within l i k j × (1 ≤ k)
 
 -- two drafts differ in parts under one at most
 abbrev pub Frame : Drafted → Drafted → FileId → ℕ → ℕ → Type 0
-Frame old new file l i = (n : Name) → (IsWithin file l i n → ⊥) → drafted new n ≡ drafted old n
+Frame old new file l i = (n : Name) → (IsPartWithin file l i n → ⊥) → drafted new n ≡ drafted old n
 
 -- the halves of a part are those of a fold
 abbrev pub AreHalves : Fold → PartFields → Type 0
@@ -60,14 +60,14 @@ IsNodeWith file l i g (node.Part p) = IsPartWith file l i g p
 pub record AtPart (old : Shown) (c : Resident) (file : FileId) (l i : ℕ) (g : Fold) (o : Option Change) (w : Option Held) : Type 0 where
   pub node : (n : Node) → there_by (known_by o w) ≡ Some n → IsNodeWith file l i g n
   pub hashes : (n : Node) (m : Name) (x : Hash32) → there_by (known_by o w) ≡ Some n → Holds n m x → WasHash old c m x
-  pub over : (n : Node) → there_by (known_by o w) ≡ Some n → (q : Name) × (parent_by o w ≡ Some q) × IsOver file l i q
+  pub over : (n : Node) → there_by (known_by o w) ≡ Some n → (q : Name) × (parent_by o w ≡ Some q) × IsDirectlyOver file l i q
   pub gone : known_by o w ≡ Some None → IsTwo g → ⊥
   pub away : known_by o w ≡ None → part_of file.0 l i g ≡ old (name.Part file l i)
   pub resident : (x : Change) → o ≡ Some x → IsSome w ⊎ (old (name.Part file l i) ≡ None)
 
 -- the parts at and under one are those of these versions
 pub record Under (old : Shown) (v : ℕ → ℕ) (d : Drafted) (c : Resident) (file : FileId) (l i : ℕ) : Type 0 where
-  pub parts : (k j : ℕ) → 1 ≤ k → Within l i k j → AtPart old c file k j (folded v k j) (drafted d (name.Part file k j)) (held c (name.Part file k j))
+  pub parts : (k j : ℕ) → 1 ≤ k → Within l i k j → AtPart old c file k j (folded v k j) (drafted d (name.Part file k j)) (held_node c (name.Part file k j))
 
 -- a side stands for its fold, and a hash in it was its part's before
 pub record SideAt (old : Shown) (c : Resident) (file : FileId) (v : ℕ → ℕ) (l i : ℕ) (s : Side) : Type 0 where
@@ -100,9 +100,9 @@ IsMissing d c file l i s low high NoMemory = Unit {0}
 -- Two halves of versions w are joined to one side, where versions v stood.
 abbrev pub Joins : Shown → Drafted → Drafted → Resident → FileId → (ℕ → ℕ) → (ℕ → ℕ) → ℕ → ℕ → Side → Side → Side → Side → Type 0
 Joins old d e c file v w l i was low high made = (k : ℕ) → l ≡ suc k → Pictures old c → HadVersions old file
-    → AtPart old c file l i (folded v l i) (drafted d (name.Part file l i)) (held c (name.Part file l i)) → SideAt old c file v l i was → IsKnownBelow was (known d c (name.Part file l i))
+    → AtPart old c file l i (folded v l i) (drafted d (name.Part file l i)) (held_node c (name.Part file l i)) → SideAt old c file v l i was → IsKnownBelow was (known d c (name.Part file l i))
     → SideAt old c file w k (2 * i) low → SideAt old c file w k (2 * i + 1) high
-    → AtPart old c file l i (folded w l i) (drafted e (name.Part file l i)) (held c (name.Part file l i)) × SideAt old c file w l i made
+    → AtPart old c file l i (folded w l i) (drafted e (name.Part file l i)) (held_node c (name.Part file l i)) × SideAt old c file w l i made
 
 -- Of a draft whose parts under one are those of versions v, one was made whose are those of versions w.
 abbrev pub Turns : Shown → Drafted → Drafted → Resident → FileId → (ℕ → ℕ) → (ℕ → ℕ) → ℕ → ℕ → Side → Side → Type 0

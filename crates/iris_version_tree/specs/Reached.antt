@@ -25,8 +25,8 @@ IsSideOf (Two x y) (Same w) = ⊥
 IsSideOf (Two x y) (Below h) = Unit {0}
 
 -- the name of the part or the entry directly over a part
-abbrev pub IsOver : FileId → ℕ → ℕ → Name → Type 0
-IsOver file l i q = ((l ≡ 16) × (q ≡ name.Entry file)) ⊎ ((j : ℕ) × (l < 16) × (q ≡ name.Part file (suc l) j) × ((i ≡ 2 * j) ⊎ (i ≡ 2 * j + 1)))
+abbrev pub IsDirectlyOver : FileId → ℕ → ℕ → Name → Type 0
+IsDirectlyOver file l i q = ((l ≡ 16) × (q ≡ name.Entry file)) ⊎ ((j : ℕ) × (l < 16) × (q ≡ name.Part file (suc l) j) × ((i ≡ 2 * j) ⊎ (i ≡ 2 * j + 1)))
 
 -- a hash of a part is held by the part or entry over it, which is seen
 pub record IsLinked (d : Drafted) (c : Resident) (file : FileId) (l i : ℕ) (h : Hash32) : Type 0 where
@@ -34,7 +34,7 @@ pub record IsLinked (d : Drafted) (c : Resident) (file : FileId) (l i : ℕ) (h 
   pub node : Node
   pub is_seen : seen d c parent ≡ Some node
   pub holds : Holds node (name.Part file l i) h
-  pub over : IsOver file l i parent
+  pub over : IsDirectlyOver file l i parent
 
 abbrev pub IsLinkedSide : Drafted → Resident → FileId → ℕ → ℕ → Side → Type 0
 IsLinkedSide d c file l i (Same w) = Unit {0}

@@ -23,8 +23,8 @@ part_seen (Some (Entry e)) = None
 part_seen (Some (Part p)) = Some p
 
 -- the half of a part on which a place lies, by its bit
-abbrev pub toward : ℕ → PartFields → Side
-toward bit p = if bit == 0 then p.low else p.high
+abbrev pub side_toward : ℕ → PartFields → Side
+side_toward bit p = if bit == 0 then p.low else p.high
 
 abbrev pub side_of_body : Body → Option Side
 side_of_body (Dir top) = None
@@ -43,14 +43,14 @@ common_of (Fold x) (Below h) = None
 common_of (Below h) s = None
 
 -- a hash of the part below
-abbrev pub IsBelow : Side → Type 0
-IsBelow (Fold x) = ⊥
-IsBelow (Below h) = Unit {0}
+abbrev pub IsBelowSide : Side → Type 0
+IsBelowSide (Fold x) = ⊥
+IsBelowSide (Below h) = Unit {0}
 
 -- the side that a node holds of the part of an index directly below it, if it holds one
 abbrev pub side_below : Node → ℕ → Option Side
 side_below (Entry e) index = side_of_body e.body
-side_below (Part p) index = Some (toward (index % 2) p)
+side_below (Part p) index = Some (side_toward (index % 2) p)
 
 abbrev pub body_with : Side → Body → Body
 body_with s (Dir top) = Dir top

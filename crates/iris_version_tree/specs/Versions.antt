@@ -7,7 +7,7 @@ use Rattle.iris_name.specs.declared.name.Name.TheVariants as name
 use Rattle.iris_node.specs.Rules.{most_level}
 use Rattle.iris_node.specs.Unfolded.{Unfolded, Absent, Folder, Leaf, Even, Split, Stored}
 use Rattle.iris_shape.specs.Folds.{folded}
-use Rattle.iris_shape.specs.Sides.{side, part_of}
+use Rattle.iris_shape.specs.Sides.{unfolded_side, part_of}
 use Rattle.iris_cache.specs.Resident.{Resident}
 use Rattle.iris_cache.specs.Drafted.{Drafted}
 use Rattle.iris_node.specs.Trees.{Shown, IsTree}
@@ -19,7 +19,7 @@ places = 65536
 
 -- the side of all versions of a file
 abbrev pub whole : ℕ → (ℕ → ℕ) → Unfolded
-whole file v = side file most_level 0 (folded v most_level 0)
+whole file v = unfolded_side file most_level 0 (folded v most_level 0)
 
 -- a file's entry, with this side of all its versions
 abbrev pub IsFileOf : ℕ → Unfolded → Option Unfolded → Type 0
@@ -47,15 +47,15 @@ reversioned file versions (Split g level index low high) = Split g level index l
 reversioned file versions (Stored version bytes) = Stored version bytes
 
 -- a name of an entry, or of another file's part
-abbrev pub IsOther : FileId → Name → Type 0
-IsOther file (name.Entry id) = Unit {0}
-IsOther file (name.Part g level index) = g ≡ file → ⊥
-IsOther file (name.Block g place) = ⊥
+abbrev pub IsOfOtherFile : FileId → Name → Type 0
+IsOfOtherFile file (name.Entry id) = Unit {0}
+IsOfOtherFile file (name.Part g level index) = g ≡ file → ⊥
+IsOfOtherFile file (name.Block g place) = ⊥
 
 -- The second table is the first with these versions of a file. Of blocks nothing is said.
 pub record Reversions (t u : Shown) (file : FileId) (v : ℕ → ℕ) : Type 0 where
   pub versions : HasVersions u file v
-  pub others : (n : Name) → IsOther file n → u n ≡ option_map (reversioned file.0 (whole file.0 v)) (t n)
+  pub others : (n : Name) → IsOfOtherFile file n → u n ≡ option_map (reversioned file.0 (whole file.0 v)) (t n)
 
 -- A cache with a draft pictures a table in which a file has these versions.
 pub record Versioned (old new : Shown) (file : FileId) (v : ℕ → ℕ) (d : Drafted) (c : Resident) : Type 0 where

@@ -5,12 +5,12 @@ ghost use Rattle.iris_name.specs.Names.{same_name};
 ghost use Rattle.iris_name.specs.declared.name.Name.{Name as SpecName};
 ghost use Rattle.iris_node.specs.Rules.{IsFold};
 ghost use Rattle.iris_node.specs.declared.node.Side.TheVariants.{Below as Hashed};
-ghost use Rattle.iris_cache.specs.Resident.{held};
+ghost use Rattle.iris_cache.specs.Resident.{held_node};
 ghost use Rattle.iris_cache.specs.Drafted.{drafted, known, seen};
 ghost use Rattle.iris_node.specs.Trees.{Shown};
 ghost use Rattle.iris_cache.specs.Pictures.{Pictures, WasHash};
 ghost use Rattle.iris_version_tree.specs.Versions.{HadVersions, places};
-ghost use Rattle.iris_version_tree.specs.Sides.{part_seen, common_of, side_below, over_name, held_side, IsBelow, AreHalvesOf, IsNeedOf};
+ghost use Rattle.iris_version_tree.specs.Sides.{part_seen, common_of, side_below, over_name, held_side, IsBelowSide, AreHalvesOf, IsNeedOf};
 ghost use Rattle.iris_version_tree.specs.Ranges.{IsKnownBelow, Joins};
 
 use crate::walk::part_at;
@@ -50,7 +50,7 @@ fn side_in(node: &Node, index: u32) -> Option<Side>
 // The side that the cache holds of a part.
 fn side_held(cache: &Cache, file: FileId, level: u8, index: u32) -> Option<Side>
     requires { level ≤ 16 }
-    ensures { result ≡ held_side (held cache.now (over_name file level index)) index }
+    ensures { result ≡ held_side (held_node cache.now (over_name file level index)) index }
 {
     let held = cache.find(&over(file, level, index))?;
     side_in(&held.node, index)
@@ -60,7 +60,7 @@ fn side_held(cache: &Cache, file: FileId, level: u8, index: u32) -> Option<Side>
 fn hash_held(cache: &Cache, file: FileId, level: u8, index: u32) -> Hash32
     requires level { level ≤ 16 }
     requires fits { (index + 1) * 2 ^ level ≤ places }
-    ensures { (old : Shown) → Pictures old cache.now → HadVersions old file → IsSome (held cache.now (Name.Part file level index)) → WasHash old cache.now (Name.Part file level index) result }
+    ensures { (old : Shown) → Pictures old cache.now → HadVersions old file → IsSome (held_node cache.now (Name.Part file level index)) → WasHash old cache.now (Name.Part file level index) result }
 {
     match side_held(cache, file, level, index) {
         Some(Side::Below(hash)) => hash,
@@ -73,9 +73,9 @@ fn hash_held(cache: &Cache, file: FileId, level: u8, index: u32) -> Hash32
 fn side_of_part(cache: &Cache, file: FileId, level: u8, index: u32, was: Side) -> Side
     requires level { level ≤ 16 }
     requires fits { (index + 1) * 2 ^ level ≤ places }
-    ensures below { IsBelow result }
-    ensures kept { IsBelow was → result ≡ was }
-    ensures held { (h : Hash32) → result ≡ Hashed h → (IsBelow was → ⊥) → (old : Shown) → Pictures old cache.now → HadVersions old file → IsSome (held cache.now (Name.Part file level index)) → WasHash old cache.now (Name.Part file level index) h }
+    ensures below { IsBelowSide result }
+    ensures kept { IsBelowSide was → result ≡ was }
+    ensures held { (h : Hash32) → result ≡ Hashed h → (IsBelowSide was → ⊥) → (old : Shown) → Pictures old cache.now → HadVersions old file → IsSome (held_node cache.now (Name.Part file level index)) → WasHash old cache.now (Name.Part file level index) h }
 {
     match was {
         Side::Below(_) => was,

@@ -5,14 +5,14 @@ ghost use Rattle.iris_name.specs.Names.{same_name};
 ghost use Rattle.iris_name.specs.declared.name.Name.{Name as SpecName};
 ghost use Rattle.iris_node.specs.Fields.{EntryFields};
 ghost use Rattle.iris_node.specs.Rules.{IsFold};
-ghost use Rattle.iris_shape.specs.FoldLaws.{changed};
+ghost use Rattle.iris_shape.specs.FoldLaws.{with_range_set};
 ghost use Rattle.iris_cache.specs.Drafted.{drafted, seen, set_to};
 ghost use Rattle.iris_node.specs.Trees.{Shown, IsTree};
 ghost use Rattle.iris_cache.specs.Pictures.{parent_after, Drafts};
 ghost use Rattle.iris_version_tree.specs.Versions.{Versioned, HadVersions, Reversions, places};
 ghost use Rattle.iris_version_tree.specs.Needs.{IsFile, HasEntryWith, IsShort};
 ghost use Rattle.iris_version_tree.specs.Sides.{body_with, entry_with, side_seen};
-ghost use Rattle.iris_version_tree.specs.Ranges.{Frame, IsWithin, Turns, IsMissing};
+ghost use Rattle.iris_version_tree.specs.Ranges.{Frame, IsPartWithin, Turns, IsMissing};
 
 use crate::parts::{Halves, halves_of, join};
 use crate::walk::{file_entry, top_side};
@@ -57,7 +57,7 @@ fn set_range(
     requires floor { level ≡ 0 → IsFold side }
     ensures frame { OnOk result (Frame draft.old draft.new file level index) }
     ensures keeps { OnOk result ((n : SpecName) → drafted draft.new n ≡ None → drafted draft.old n ≡ None) }
-    ensures made { IfOk result (λ s. (old : Shown) → (v : ℕ → ℕ) → Turns old draft.old draft.new cache.now file v (changed v span.low span.high span.version) level index side s) }
+    ensures made { IfOk result (λ s. (old : Shown) → (v : ℕ → ℕ) → Turns old draft.old draft.new cache.now file v (with_range_set v span.low span.high span.version) level index side s) }
     ensures floor { IfOk result (λ s. level ≡ 0 → IsFold s) }
     ensures short { IfErr result (IsMissing draft.old cache.now file level index side span.low span.high) }
 {
@@ -152,11 +152,11 @@ pub fn plan_set(
     requires some { low < high }
     requires within { high ≤ places }
     ensures set { OnOk result ((old : Shown) → (new : Shown) → (v : ℕ → ℕ) → Versioned old new file v draft.old cache.now → HadVersions old file
-        → (made : Shown) → IsTree made → Reversions new made file (changed v low high version) → Drafts old made draft.new cache.now) }
+        → (made : Shown) → IsTree made → Reversions new made file (with_range_set v low high version) → Drafts old made draft.new cache.now) }
     // Whatever is pictured, nothing but the side in the file's entry and the parts of the file is changed.
     ensures entry { OnOk result ((e : EntryFields) → seen draft.old cache.now (Name.Entry file) ≡ Some (Node.Entry e) → HasEntryWith draft.new cache.now file e) }
     ensures file { OnOk result (IsFile draft.new cache.now file) }
-    ensures others { OnOk result ((n : SpecName) → (IsWithin file 16 0 n → ⊥) → (n ≡ Name.Entry file → ⊥) → drafted draft.new n ≡ drafted draft.old n) }
+    ensures others { OnOk result ((n : SpecName) → (IsPartWithin file 16 0 n → ⊥) → (n ≡ Name.Entry file → ⊥) → drafted draft.new n ≡ drafted draft.old n) }
     // What was drafted stays drafted.
     ensures keeps { OnOk result ((n : SpecName) → drafted draft.new n ≡ None → drafted draft.old n ≡ None) }
     ensures short { IfErr result (IsShort draft.old cache.now file low high) }

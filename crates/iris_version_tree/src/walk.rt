@@ -8,7 +8,7 @@ ghost use Rattle.iris_cache.specs.Drafted.{known, seen};
 ghost use Rattle.iris_node.specs.Trees.{Shown};
 ghost use Rattle.iris_version_tree.specs.Versions.{Versioned, places};
 ghost use Rattle.iris_version_tree.specs.Needs.{IsFile, IsFileNode, IsLack};
-ghost use Rattle.iris_version_tree.specs.Sides.{part_seen, side_seen, toward};
+ghost use Rattle.iris_version_tree.specs.Sides.{part_seen, side_seen, side_toward};
 
 use iris_cache::{Cache, Draft, Short};
 use iris_name::{Expect, FileId, Hash32, Name};
@@ -117,7 +117,7 @@ pub(crate) fn part_at(
 // The half of a part on which a place lies, by the bit of the level below.
 fn half_toward(part: &PartNode, place: u32, below: u8) -> Side
     requires { below < 32 }
-    ensures { result ≡ toward ((place / 2 ^ below) % 2) part.now }
+    ensures { result ≡ side_toward ((place / 2 ^ below) % 2) part.now }
 {
     if (place >> below) % 2 == 0 {
         part.low

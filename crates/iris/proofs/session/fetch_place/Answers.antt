@@ -2,7 +2,7 @@ use Rattle.std.proofs.Common.{◌∙◌, [], ◌∷◌, refl, sym, ap, subst, ar
 use Rattle.std.proofs.lemmas.List.{get_or_default}
 use Rattle.iris_name.specs.declared.note.Note.TheVariants.{Got}
 use Rattle.iris_name.specs.Told.{appended}
-use Rattle.iris.specs.Answers.{Fits}
+use Rattle.iris.specs.Answers.{IsRightReply}
 use Rattle.iris.specs.Lines.{read_of}
 use Rattle.iris.proofs.Results.{on_err}
 use Rattle.iris.proofs.Sessions.{ready_judged, got_ready, got_judged}
@@ -40,7 +40,7 @@ returns-clause-ready g c =
     got_ready c.args.keys.now.block s c.enter.new.self (g.G.Log.notes c.args.log.now) (g.G.Log.notes c.note.new.self) (g.G.Log.notes c.enter.new.log) c.args.place s.noted c.in_ok-answer.answer c.in_ok-reply.field-0 c.args.request
     c.requires.ready (c.note.ensures.notes ∙ n) c.in_ok-enter.ensures.notes c.requires.asked c.requires.place
     c.in_ok-enter.ensures.places (omega (arith, c.in_ok-enter.ensures.noted)) c.requires.written c.requires.absent refl
-    c.in_ok-reply.ensures.value (subst (λ v. Fits c.args.keys.now.block c.args.place v c.in_ok-answer.answer c.in_ok-reply.field-0) (sym version) c.in_ok-reply.ensures.fits)
+    c.in_ok-reply.ensures.value (subst (λ v. IsRightReply c.args.keys.now.block c.args.place v c.in_ok-answer.answer c.in_ok-reply.field-0) (sym version) c.in_ok-reply.ensures.fits)
 
 pub returns-clause-serves : goal.returns-clause-serves
 returns-clause-serves g c =

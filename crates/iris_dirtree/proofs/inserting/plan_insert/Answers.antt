@@ -1,6 +1,6 @@
 use Rattle.std.proofs.Common.{◌≤◌, ap, ◌∙◌, arith}
 use Rattle.iris_shape.specs.Treap.{keep, skip}
-use Rattle.iris_dirtree.specs.Ways.{before}
+use Rattle.iris_dirtree.specs.Ways.{is_row_before}
 use Rattle.iris_dirtree.proofs.Finishing.{inserted}
 use Rattle.iris_dirtree.proofs.Fitting.{row_node_id}
 use Rattle.iris_dirtree.proofs.Insertions.{each_parts}
@@ -9,11 +9,11 @@ use Rattle.iris_dirtree.proofs.inserting.plan_insert.Goals as goal
 pub returns-clause-inserted : goal.returns-clause-inserted
 returns-clause-inserted c = λ old new made x rows listed is_row holds tree countable re.
     let p = c.in_ok-plant.ensures.planted old new made x rows listed is_row holds tree countable re in
-    inserted old new made c.args.keys.now.order c.args.dir (before x.name) x rows c.args.draft.now c.plant.new.draft c.recount.new.draft c.args.cache.now listed tree countable re p.0 p.1 c.in_ok-recount.ensures.counted
+    inserted old new made c.args.keys.now.order c.args.dir (is_row_before x.name) x rows c.args.draft.now c.plant.new.draft c.recount.new.draft c.args.cache.now listed tree countable re p.0 p.1 c.in_ok-recount.ensures.counted
 
 pub returns-then-id_of-lt2-clause-inserted : goal.returns-then-id_of-lt2-clause-inserted
 returns-then-id_of-lt2-clause-inserted c = λ old new made x rows listed is_row holds tree countable re.
-    let p = before x.name in
+    let p = is_row_before x.name in
     let two : 2 ≤ x.id = (each_parts (λ r. 2 ≤ r.id) (keep p rows) x (skip p rows) re.rows.named).1 in
     let id = ap (λ i. i.0) (c.id_of.ensures ∙ (row_node_id x c.args.node is_row).0) in
     let low = c.if-id_of-lt2.true in

@@ -6,11 +6,11 @@ use Rattle.iris_name.specs.declared.name.Name.{Name}
 use Rattle.iris_name.specs.declared.name.Name.TheVariants as name
 use Rattle.iris_node.specs.declared.node.Node.TheVariants as node
 use Rattle.iris_node.specs.Trees.{Shown}
-use Rattle.iris_shape.specs.Treap.{Treap, treap, put}
+use Rattle.iris_shape.specs.Treap.{Treap, treap, rows_with}
 use Rattle.iris_cache.specs.Drafted.{seen}
-use Rattle.iris_cache.specs.Resident.{held}
+use Rattle.iris_cache.specs.Resident.{held_node}
 use Rattle.iris_dirtree.specs.Rows.{Row, up}
-use Rattle.iris_dirtree.specs.Ways.{along_name, before}
+use Rattle.iris_dirtree.specs.Ways.{along_name, is_row_before}
 use Rattle.iris_dirtree.specs.Needs.{IsShort, ListedInHand}
 use Rattle.iris_dirtree.specs.Nodes.{between}
 use Rattle.iris_dirtree.specs.Grafts.{Fits, Leads, Reached, WasHash, over}
@@ -81,7 +81,7 @@ returns-clause-planted c = λ old new made x rows listed is_row holds tree count
     let a = c.in_ok-above.above in
     let js = c.in_ok-below.below.items in
     let t = treap (up key) rows in
-    let u = treap (up key) (put (before x.name) x rows) in
+    let u = treap (up key) (rows_with (is_row_before x.name) x rows) in
     let id_is = c.id_of-id.ensures in
     let all : Tables key dir x k d q old new made rows n1 = record { listed = listed; is_row = is_row; holds = holds; tree = tree; countable = countable; rearranged = re; named = c.in_ok-name.ensures ∙ (row_node_id x k is_row).1 } in
     let reached = subst (λ (j : FileId). (old : Shown) → (t : Treap Row) → Fits old q (IsKnown d q j) d root t → Leads old q top t → Reached (priority key) j n1 old q d root t a.path.items a.last a.at) id_is c.in_ok-above.ensures.reached in
@@ -92,7 +92,7 @@ returns-clause-planted c = λ old new made x rows listed is_row holds tree count
     let halved = c.in_ok-halves.ensures.halved n1 old q k.id (over root r.forks) r.rest sp way in
     let hash = c.hash_held.result in
     let out : new (name.Entry k.id) ≡ _ = ap (λ j. new (name.Entry j)) (row_node_id x k is_row).0 ∙ listed.hand.out in
-    let found = subst (λ (j : FileId). IsSome (held q (name.Entry j)) → WasHash old q (name.Entry j) hash) id_is (c.hash_held.ensures old listed.rooted listed.formed listed.hand.before) in
+    let found = subst (λ (j : FileId). IsSome (held_node q (name.Entry j)) → WasHash old q (name.Entry j) hash) id_is (c.hash_held.ensures old listed.rooted listed.formed listed.hand.before) in
     let was = hand_hash old new d q k.id hash (see key dir x k d q old new made rows n1 all) out found in
     let there = there_root key dir x k d q old new made rows n1 all top top_is in
     let start = grow_start key dir x k d q old new made rows n1 all d1 d2 a.path.items a.last a.at r h.low h.high hash c.in_ok-seat.seat there halved c.in_ok-seat.ensures.link c.in_ok-seat.ensures.set was in

@@ -1,7 +1,7 @@
 use Rattle.std.proofs.Common.{◌≤◌, cond, Option, Some, sym, subst}
 use Rattle.iris_name.specs.declared.name.Name.TheVariants as name
 use Rattle.iris_node.specs.declared.node.Link.{Link}
-use Rattle.iris_node.specs.Rules.{IsLinked}
+use Rattle.iris_node.specs.Rules.{IsLinkToNamed}
 use Rattle.iris_shape.specs.Treap.{Each}
 use Rattle.iris_dirtree.specs.declared.inserting.Crumb.{Crumb}
 use Rattle.iris_dirtree.specs.Nodes.{turned, LinksTo, IsPut}
@@ -28,8 +28,8 @@ loop-crumb-preserved c =
     let rows = each_front (λ (k : Crumb). 2 ≤ k.node.id.0) js k (subst (λ v. Each (λ (k : Crumb). 2 ≤ k.node.id.0) v) popped inv.rows) in
     record {
       rows = rows.0;
-      low = subst IsLinked (sym c.chosen_link-low.ensures) (linked_either k.right (Some link) lows c.in_ok-link.ensures.linked inv.low);
-      high = subst IsLinked (sym c.chosen_link-high.ensures) (linked_either k.right highs (Some link) inv.high c.in_ok-link.ensures.linked);
+      low = subst IsLinkToNamed (sym c.chosen_link-low.ensures) (linked_either k.right (Some link) lows c.in_ok-link.ensures.linked inv.low);
+      high = subst IsLinkToNamed (sym c.chosen_link-high.ensures) (linked_either k.right highs (Some link) inv.high c.in_ok-link.ensures.linked);
       entries = only_more d e1 e2 (Some (name.Entry k.parent)) (turned k.right (cond k.right lows highs) k.node) inv.entries both.1;
       halved = λ n old q i p t splits way.
           let r = halved_more n old q i d e1 e2 p t splits ks js k lows highs link popped (inv.halved n old q i p t splits way) both.0 both.1 in

@@ -2,7 +2,7 @@ use Rattle.std.proofs.Common.{rules, ◌≡◌, ◌≤◌, ◌++◌, ◌∷◌, 
 use Rattle.std.proofs.lemmas.Result.{err_from_is_err_and}
 use Rattle.iris_name.specs.declared.name.Name.TheVariants as name
 use Rattle.iris_node.specs.declared.node.Link.{Link}
-use Rattle.iris_node.specs.Rules.{IsLinked}
+use Rattle.iris_node.specs.Rules.{IsLinkToNamed}
 use Rattle.iris_shape.specs.Treap.{Each, Treap}
 use Rattle.iris_dirtree.specs.declared.inserting.Crumb.{Crumb}
 use Rattle.iris_dirtree.specs.Rows.{Row}
@@ -19,7 +19,7 @@ loop-step-preserved c =
     let l = c.in-Some.link in
     let pushed = sym c.in_ok-keep.ensures in
     let read = c.in_ok-crumb.ensures.read in
-    let two : 2 ≤ l.id.0 = subst IsLinked c.in-Some.is c.loop-step.invariant.linked in
+    let two : 2 ≤ l.id.0 = subst IsLinkToNamed c.in-Some.is c.loop-step.invariant.linked in
     record {
       rows = subst (λ (v : List Crumb). Each (λ k. 2 ≤ k.node.id.0) v) pushed (each_more (λ k. 2 ≤ k.node.id.0) ks k c.loop-step.invariant.rows (subst (λ i. 2 ≤ i.0) (sym read.id) two));
       linked = c.next-at.ensures.linked;

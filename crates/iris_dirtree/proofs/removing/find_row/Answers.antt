@@ -3,7 +3,7 @@ use Rattle.std.proofs.lemmas.Result.{err_from_is_err_and}
 use Rattle.iris_name.specs.declared.name.FileId.{FileId}
 use Rattle.iris_name.specs.declared.name.Name.{Name}
 use Rattle.iris_node.specs.Fields.{EntryFields}
-use Rattle.iris_node.specs.Rules.{IsLinked}
+use Rattle.iris_node.specs.Rules.{IsLinkToNamed}
 use Rattle.iris_node.specs.Trees.{Shown}
 use Rattle.iris_shape.specs.Order.{less_name}
 use Rattle.iris_shape.specs.Treap.{Treap}
@@ -26,7 +26,7 @@ loop-step-preserved c =
     let b = c.stands_before-right.result in
     let crumb : Crumb = record { node = e; right = b; hash = k.hash } in
     let N : FileId → Type 0 = λ i. 2 ≤ i.0 in
-    let L : Option Link → Type 0 = λ o. IsLinked o in
+    let L : Option Link → Type 0 = λ o. IsLinkToNamed o in
     let linked : 2 ≤ k.id.0 = subst L c.in-Some.is c.loop-step.invariant.linked in
     record {
       named = subst AreNamed (sym c.in_ok-keep.ensures) (named_more es crumb c.loop-step.invariant.named (subst N (sym c.in_ok-node.ensures.own) linked));

@@ -6,7 +6,7 @@ use Rattle.iris_name.specs.declared.name.FileId.{FileId}
 use Rattle.iris_name.specs.declared.name.Name.TheVariants as name
 use Rattle.iris_node.specs.declared.node.Link.{Link}
 use Rattle.iris_node.specs.declared.node.Node.TheVariants as node
-use Rattle.iris_node.specs.Rules.{IsLinked}
+use Rattle.iris_node.specs.Rules.{IsLinkToNamed}
 use Rattle.iris_node.specs.Trees.{Shown}
 use Rattle.iris_node.specs.Unfolded.{id_of}
 use Rattle.iris_shape.specs.Order.{beats}
@@ -60,7 +60,7 @@ loop-step-preserved c =
     let b = c.stands_above-right.result in
     let es = c.loop-step.path.items in
     let crumb : Crumb = record { node = e; right = b; hash = c.chosen-link.result.hash } in
-    let L : Option Link → Type 0 = λ o. IsLinked o in
+    let L : Option Link → Type 0 = λ o. IsLinkToNamed o in
     let jl : 2 ≤ j.id.0 = subst L c.in-Some.is c.loop-step.invariant.less in
     let kl : 2 ≤ k.id.0 = subst L c.in-Some-more.is c.loop-step.invariant.more in
     let N : FileId → Type 0 = λ i. 2 ≤ i.0 in

@@ -1,5 +1,5 @@
 use Rattle.std.proofs.Common.{List}
-use Rattle.iris_node.specs.Rules.{IsLinked}
+use Rattle.iris_node.specs.Rules.{IsLinkToNamed}
 use Rattle.iris_node.specs.Trees.{Shown}
 use Rattle.iris_shape.specs.Treap.{Treap}
 use Rattle.iris_dirtree.specs.Descents.{Joining}
@@ -10,7 +10,7 @@ use Rattle.iris_dirtree.proofs.removing.join_sides.Given as goal
 abbrev pub invariant-loop-step : goal.invariant-loop-step
 invariant-loop-step l = record {
   named : AreNamed l.path.items;
-  less : IsLinked l.less;
-  more : IsLinked l.more;
+  less : IsLinkToNamed l.less;
+  more : IsLinkToNamed l.more;
   joining : (old new : Shown) → (t u : Treap Row) → (met : List Row) → Joining old new l.cache t l.draft (up l.keys.order) met u l.fn.path.items l.row.left l.row.right → Joining old new l.cache t l.draft (up l.keys.order) met u l.path.items l.less l.more;
 }

@@ -1,27 +1,27 @@
 use Rattle.std.proofs.Common.{◌≡◌, List, None, ℕ, sym, subst}
 use Rattle.iris_node.specs.Fields.{EntryFields}
-use Rattle.iris_shape.specs.Treap.{treap, without}
+use Rattle.iris_shape.specs.Treap.{treap, rows_without}
 use Rattle.iris_dirtree.specs.Hands.{IsRowNode, HoldsTrue}
 use Rattle.iris_dirtree.specs.Nodes.{between}
 use Rattle.iris_dirtree.specs.Planted.{Planted}
-use Rattle.iris_dirtree.specs.Rows.{Rearranges, arranged, up}
-use Rattle.iris_dirtree.specs.Ways.{is_named}
+use Rattle.iris_dirtree.specs.Rows.{Rearranges, treap_of_rows, up}
+use Rattle.iris_dirtree.specs.Ways.{has_name}
 use Rattle.iris_dirtree.proofs.Finishing.{removed}
 use Rattle.iris_dirtree.proofs.Planting.{few_inside}
 use Rattle.iris_dirtree.proofs.removing.plan_remove.Goals as goal
 
 pub returns-clause-removed : goal.returns-clause-removed
-unfolding arranged
+unfolding treap_of_rows
 returns-clause-removed c = λ old new made x rows listed x_in x_name tree few arranges.
     let key = c.args.keys.now.order in
     let d = c.args.draft.now in
     let e = c.unplant.new.draft in
     let q = c.args.cache.now in
     let dir = c.args.dir in
-    let small = few_inside made key dir (without (is_named c.args.name.now) rows) arranges.rows few in
+    let small = few_inside made key dir (rows_without (has_name c.args.name.now) rows) arranges.rows few in
     let planted = c.in_ok-entry.ensures.planted old new x rows listed x_in x_name small in
-    let A : List ℕ → Type 0 = λ n. Rearranges new made key dir rows (without (is_named n) rows) in
-    let P : List ℕ → Type 0 = λ n. Planted old dir (treap (up key) rows) (treap (up key) (without (is_named n) rows)) d e q in
+    let A : List ℕ → Type 0 = λ n. Rearranges new made key dir rows (rows_without (has_name n) rows) in
+    let P : List ℕ → Type 0 = λ n. Planted old dir (treap (up key) rows) (treap (up key) (rows_without (has_name n) rows)) d e q in
     let there = c.in_ok-entry.ensures.there in
     let row = c.in_ok-entry.ensures.row old new x rows listed x_in x_name in
     let R : EntryFields → Type 0 = λ e. IsRowNode x e × HoldsTrue old q e in

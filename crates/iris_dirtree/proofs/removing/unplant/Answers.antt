@@ -6,16 +6,16 @@ use Rattle.iris_node.specs.declared.node.Link.{Link}
 use Rattle.iris_node.specs.declared.node.Node.TheVariants as node
 use Rattle.iris_node.specs.Fields.{EntryFields}
 use Rattle.iris_node.specs.Trees.{Shown}
-use Rattle.iris_shape.specs.Treap.{treap, without}
+use Rattle.iris_shape.specs.Treap.{treap, rows_without}
 use Rattle.iris_shape.specs.Order.{Distinct}
 use Rattle.iris_shape.proofs.Treaps.{rows_treap}
 use Rattle.iris_cache.specs.Drafted.{seen, taken_away}
 use Rattle.iris_dirtree.specs.Descents.{FoundRow, Joins, Seeks, met_near, taken}
 use Rattle.iris_dirtree.specs.Needs.{Listed}
 use Rattle.iris_dirtree.specs.Nodes.{IsPut}
-use Rattle.iris_dirtree.specs.Rows.{Row, arranged, up, row_id}
+use Rattle.iris_dirtree.specs.Rows.{Row, treap_of_rows, up, row_id}
 use Rattle.iris_dirtree.specs.Steps.{crumb_above}
-use Rattle.iris_dirtree.specs.Ways.{is_named, near_name}
+use Rattle.iris_dirtree.specs.Ways.{has_name, near_name}
 use Rattle.iris_dirtree.proofs.Begins.{holder, seek_start, stop_short}
 use Rattle.iris_dirtree.proofs.Seeks.{found_joining}
 use Rattle.iris_dirtree.proofs.Sees.{sees_drafts}
@@ -79,7 +79,7 @@ returns-in_err-path-2-clause-short c =
     rw (p.1, p.2) (stop_short key c.args.dir d q (near_name n key) (Joins d q (up key) path row.left row.right) c.in_err-path-2.field-0.0 joins c.in_err-path-2.ensures.short)
 
 pub returns-clause-planted : goal.returns-clause-planted
-unfolding arranged
+unfolding treap_of_rows
 returns-clause-planted c = λ old new x all listed x_in x_name few.
     let key = c.args.keys.now.order in
     let n = c.args.name.now in
@@ -87,11 +87,11 @@ returns-clause-planted c = λ old new x all listed x_in x_name few.
     let q = c.args.cache.now in
     let dir = c.args.dir in
     let t = treap (up key) all in
-    let u = treap (up key) (without (is_named n) all) in
+    let u = treap (up key) (rows_without (has_name n) all) in
     let row = c.in_ok-path.field-0.row in
     let f = found (goal.at.returns-clause-planted c).In_ok-path old new all listed in
     let has = listed.rows_are in
-    let once = once_of u (subst (Distinct row_id) (sym (rows_treap (up key) (without (is_named n) all))) (distinct_without (is_named n) all has.distinct)) in
+    let once = once_of u (subst (Distinct row_id) (sym (rows_treap (up key) (rows_without (has_name n) all))) (distinct_without (has_name n) all has.distinct)) in
     let joining = found_joining old new q t d (up key) n c.in_ok-path.field-0.path.items row u (taken_without key n all has.rising has.distinct) f in
     let ended = c.in_ok-path-2.ensures.ended old new t u (met_near n t) joining in
     let hold = holder (seen d q (name.Entry dir)) c.in_ok-top.top c.in_ok-top.ensures.top in

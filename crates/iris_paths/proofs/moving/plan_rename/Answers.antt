@@ -4,7 +4,7 @@ use Rattle.iris_plain.specs.Checks.{no_place}
 use Rattle.iris_plain.specs.Routes.{last}
 use Rattle.iris_paths.specs.declared.entering.Place.TheVariants.{In, Not}
 use Rattle.iris_paths.specs.Pictured.{IsOnTrail, IsPathLack, every}
-use Rattle.iris_paths.specs.Entering.{IsPlace}
+use Rattle.iris_paths.specs.Entering.{IsDestination}
 use Rattle.iris_paths.specs.Moving.{IsSource, IsCarryShort}
 use Rattle.iris_paths.proofs.Welcome.{last_at}
 use Rattle.iris_paths.proofs.Moved.{trail_lacks, move_lacks, rest_of_checks, moves}
@@ -43,7 +43,7 @@ returns-in-Not-2-clause-verdict c = λ met old new pic.
     let w = c.args.cache.now in
     let here = subst (IsSource d w c.names-olds.result.now c.names-news.result.now) c.in-In.is c.in_ok-dir.ensures.source in
     let source = subst (λ m. IsSource d w c.args.from.now m (In c.in-In.dir)) c.names-news.ensures (subst (λ l. IsSource d w l c.names-news.result.now (In c.in-In.dir)) c.names-olds.ensures here) in
-    let place = subst (λ l. IsPlace d w l (Not c.in-Not-2.error)) c.names-news.ensures (subst (IsPlace d w c.names-news.result.now) c.in-Not-2.is c.in_ok-dir-2.ensures.place) in
+    let place = subst (λ l. IsDestination d w l (Not c.in-Not-2.error)) c.names-news.ensures (subst (IsDestination d w c.names-news.result.now) c.in-Not-2.is c.in_ok-dir-2.ensures.place) in
     sym (rest_of_checks key met c.args.from.now c.args.to.now c.in-In.dir d w old new (no_place met false c.args.to.now) source pic ∙ place key met old new pic)
 
 pub returns-in_err-carry-clause-short : goal.returns-in_err-carry-clause-short
@@ -55,8 +55,8 @@ returns-in_err-carry-clause-short c =
     let e = c.in_err-carry.field-0.0 in
     let here = subst (IsSource d w c.names-olds.result.now c.names-news.result.now) c.in-In.is c.in_ok-dir.ensures.source in
     let source = subst (λ m. IsSource d w c.args.from.now m (In c.in-In.dir)) c.names-news.ensures (subst (λ l. IsSource d w l c.names-news.result.now (In c.in-In.dir)) c.names-olds.ensures here) in
-    let there = subst (IsPlace d w c.names-news.result.now) c.in-In-2.is c.in_ok-dir-2.ensures.place in
-    let place = subst (λ l. IsPlace d w l (In c.in-In-2.dir)) c.names-news.ensures there in
+    let there = subst (IsDestination d w c.names-news.result.now) c.in-In-2.is c.in_ok-dir-2.ensures.place in
+    let place = subst (λ l. IsDestination d w l (In c.in-In-2.dir)) c.names-news.ensures there in
     let name = c.index-olds-olds.is ∙ (last_at c.names-olds.result.now c.index-olds-olds.result here.1 ∙ ap last c.names-olds.ensures) in
     let label = c.index-news-news.is ∙ (last_at c.names-news.result.now c.index-news-news.result there.1 ∙ ap last c.names-news.ensures) in
     rw (p.1, p.2) (move_lacks key c.args.from.now c.args.to.now c.in-In.dir c.in-In-2.dir d w e source place
@@ -69,7 +69,7 @@ returns-clause-verdict c = λ met old new pic.
     let w = c.args.cache.now in
     let here = subst (IsSource d w c.names-olds.result.now c.names-news.result.now) c.in-In.is c.in_ok-dir.ensures.source in
     let source = subst (λ m. IsSource d w c.args.from.now m (In c.in-In.dir)) c.names-news.ensures (subst (λ l. IsSource d w l c.names-news.result.now (In c.in-In.dir)) c.names-olds.ensures here) in
-    let place = subst (λ l. IsPlace d w l (In c.in-In-2.dir)) c.names-news.ensures (subst (IsPlace d w c.names-news.result.now) c.in-In-2.is c.in_ok-dir-2.ensures.place) in
+    let place = subst (λ l. IsDestination d w l (In c.in-In-2.dir)) c.names-news.ensures (subst (IsDestination d w c.names-news.result.now) c.in-In-2.is c.in_ok-dir-2.ensures.place) in
     sym (rest_of_checks key met c.args.from.now c.args.to.now c.in-In.dir d w old new (no_place met false c.args.to.now) source pic ∙ (place.2 key met old new pic).allowed)
 
 pub returns-clause-moved : goal.returns-clause-moved
@@ -79,8 +79,8 @@ returns-clause-moved c = λ _.
     let w = c.args.cache.now in
     let here = subst (IsSource d w c.names-olds.result.now c.names-news.result.now) c.in-In.is c.in_ok-dir.ensures.source in
     let source = subst (λ m. IsSource d w c.args.from.now m (In c.in-In.dir)) c.names-news.ensures (subst (λ l. IsSource d w l c.names-news.result.now (In c.in-In.dir)) c.names-olds.ensures here) in
-    let there = subst (IsPlace d w c.names-news.result.now) c.in-In-2.is c.in_ok-dir-2.ensures.place in
-    let place = subst (λ l. IsPlace d w l (In c.in-In-2.dir)) c.names-news.ensures there in
+    let there = subst (IsDestination d w c.names-news.result.now) c.in-In-2.is c.in_ok-dir-2.ensures.place in
+    let place = subst (λ l. IsDestination d w l (In c.in-In-2.dir)) c.names-news.ensures there in
     let name = c.index-olds-olds.is ∙ (last_at c.names-olds.result.now c.index-olds-olds.result here.1 ∙ ap last c.names-olds.ensures) in
     let label = c.index-news-news.is ∙ (last_at c.names-news.result.now c.index-news-news.result there.1 ∙ ap last c.names-news.ensures) in
     moves key c.args.from.now c.args.to.now c.in-In.dir c.in-In-2.dir d c.carry.new.draft w source place c.index-olds-olds.result c.index-news-news.result name label c.in_ok-carry.ensures.carried

@@ -1,7 +1,7 @@
 use Rattle.std.proofs.Common.{drop}
 use Rattle.iris_table.specs.declared.challenge.Met.{Met}
-use Rattle.iris_table.specs.Strides.{Meets, files_of}
+use Rattle.iris_table.specs.Strides.{WalkMeets, files_of}
 use Rattle.iris_table.proofs.challenge.meet.Given as goal
 
 abbrev pub invariant-loop-item : goal.invariant-loop-item
-invariant-loop-item l = (r : Met) → Meets (files_of (drop l.item-index l.items)) l.left r → Meets (files_of l.items) l.at r
+invariant-loop-item l = (r : Met) → WalkMeets (files_of (drop l.item-index l.items)) l.left r → WalkMeets (files_of l.items) l.at r

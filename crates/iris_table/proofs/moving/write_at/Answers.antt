@@ -1,5 +1,5 @@
 use Rattle.std.proofs.Common.{◌^◌}
-use Rattle.iris_table.specs.Changes.{written, seen_row}
+use Rattle.iris_table.specs.Changes.{file_written, seen_row}
 use Rattle.iris_table.specs.Stops.{met_in}
 use Rattle.iris_table.proofs.Removing.{ok_one, filed_ok, counter_ok, forest_filed, must_stand, file_there}
 use Rattle.iris_table.proofs.moving.write_at.Goals as goal
@@ -9,7 +9,7 @@ write_item-requires-clause-counter c = counter_ok c.args.items.now c.args.names.
 
 pub returns-in-Standing-clause-ok : goal.returns-in-Standing-clause-ok
 returns-in-Standing-clause-ok c = ok_one c.write_item.result
-    (λ f. filed_ok c.args.items.now c.args.names.now c.in-Standing.place (written c.args.offset c.args.bytes.now) c.index-items-place.result c.write_item.new.item c.requires.named c.in-Standing.ensures.value c.in-Standing.ensures.within c.index-items-place.is f) c.write_item.ensures.ok
+    (λ f. filed_ok c.args.items.now c.args.names.now c.in-Standing.place (file_written c.args.offset c.args.bytes.now) c.index-items-place.result c.write_item.new.item c.requires.named c.in-Standing.ensures.value c.in-Standing.ensures.within c.index-items-place.is f) c.write_item.ensures.ok
 
 pub returns-in-Standing-clause-forest : goal.returns-in-Standing-clause-forest
 returns-in-Standing-clause-forest c f = forest_filed c.args.items.now c.in-Standing.place c.index-items-place.result c.write_item.new.item c.in-Standing.ensures.within c.index-items-place.is c.write_item.ensures.depth c.write_item.ensures.kind f

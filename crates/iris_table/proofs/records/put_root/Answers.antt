@@ -1,6 +1,6 @@
 use Rattle.std.proofs.Common.{ap, sym, ◌∙◌}
 use Rattle.sha2.specs.Sha256.{sha256}
-use Rattle.iris_node.specs.Unfolded.{spelled as node_spelled}
+use Rattle.iris_node.specs.Unfolded.{spelled_node as node_spelled}
 use Rattle.iris_table.proofs.Insides.{root_node, root_puts}
 use Rattle.iris_table.proofs.Linking.{if_ok, on_ok}
 use Rattle.iris_table.proofs.records.put_root.Goals as goal

@@ -9,7 +9,7 @@ use Rattle.iris_node.specs.Unfolded.{hash}
 use Rattle.iris_cache.specs.declared.held.Held.{Held}
 use Rattle.iris_cache.specs.Held.{points, settled_so}
 use Rattle.iris_cache.specs.Rehash.{with_hash}
-use Rattle.iris_cache.specs.Resident.{held, map_if, up}
+use Rattle.iris_cache.specs.Resident.{held_node, map_if, resident_parent}
 use Rattle.iris_tree_tests.proofs.settling.settle.Goals as goal
 
 -- a hash is its bytes
@@ -26,4 +26,4 @@ returns-clause-settled c = λ _ h at q.
     let same : c.in-Some.held.now ≡ h = the-held c.in-Some.held.now h (ap option_copied (sym c.in-Some.is) ∙ c.find.ensures ∙ at) in
     let spelt = c.as_slice-in-Some.ensures ∙ c.in_ok-encode-in-Some.ensures.bytes in
     let made : c.hash_of-hash.result ≡ hash h.node = hash-of c.hash_of-hash.result (hash h.node) (c.hash_of-hash.ensures ∙ ap sha256 spelt ∙ ap (λ (g : Held). sha256 (spelling g.node)) same) in
-    subst (λ x. held c.set_hash.new.self q ≡ map_if (points (up k n) q) (with_hash n x) (map_if (same_name n q) settled_so (held k q))) made (c.set_hash.ensures.nodes q)
+    subst (λ x. held_node c.set_hash.new.self q ≡ map_if (points (resident_parent k n) q) (with_hash n x) (map_if (same_name n q) settled_so (held_node k q))) made (c.set_hash.ensures.nodes q)

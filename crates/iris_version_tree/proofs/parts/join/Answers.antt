@@ -4,7 +4,7 @@ use Rattle.iris_node.specs.declared.node.Node.TheVariants as node
 use Rattle.iris_node.specs.Fields.{PartFields}
 use Rattle.iris_shape.specs.Folds.{folded}
 use Rattle.iris_cache.specs.declared.draft.Change.{Change}
-use Rattle.iris_cache.specs.Resident.{held}
+use Rattle.iris_cache.specs.Resident.{held_node}
 use Rattle.iris_cache.specs.Drafted.{drafted, known, set_to, taken_away}
 use Rattle.iris_version_tree.specs.Sides.{over_name}
 use Rattle.iris_version_tree.specs.Reached.{IsTwo, IsSideOf}
@@ -37,7 +37,7 @@ returns-in-Fold-clause-made c = λ old v w k e pic had at was there low high.
     let x = c.in-Fold.field-0 in
     let h = same_one (folded v l i) x (subst (IsSideOf (folded v l i)) c.in-Fold.is was.like) in
     let o = drafted c.args.draft.now (name.Part f l i) in
-    let r = held q (name.Part f l i) in
+    let r = held_node q (name.Part f l i) in
     (subst (λ g. AtPart old q f l i g o r) (sym g) (at_even old q f l i r x u o (subst (λ g. AtPart old q f l i g o r) h at)), even_side old q f w l i u g)
 
 pub returns-in_ok-remove-in-Below-clause-made : goal.returns-in_ok-remove-in-Below-clause-made
@@ -51,7 +51,7 @@ returns-in_ok-remove-in-Below-clause-made c = λ old v w k e pic had at was ther
     let g = join_ones w k l i u e (subst (IsSideOf (folded w k (2 * i))) s.0 low.like) (subst (IsSideOf (folded w k (2 * i + 1))) s.1 high.like) in
     let n = name.Part f l i in
     let o = drafted c.args.draft.now n in
-    let r = held q n in
+    let r = held_node q n in
     let there' = there_below (folded v l i) c.args.was (known c.args.draft.now q n) was.like there in
     let z = written c.args.draft.now c.remove.new.self n taken_away c.in_ok-remove-in-Below.ensures.names in
     (subst (λ o. AtPart old q f l i (folded w l i) o r) (sym z) (subst (λ g. AtPart old q f l i g (Some taken_away) r) (sym g) (at_removed old q f l i r (folded v l i) o u at there')), even_side old q f w l i u g)
@@ -66,7 +66,7 @@ returns-in_ok-set-in-None-clause-made c = λ old v w k e pic had at was there lo
     let p : PartFields = record { file = f; level = l; index = i; low = c.args.halves.low; high = c.args.halves.high } in
     let g = join_apart w k l i c.args.halves.low c.args.halves.high e (sym c.common.ensures ∙ c.in-None.is) low.like high.like in
     let o = drafted c.args.draft.now n in
-    let r = held q n in
+    let r = held_node q n in
     let there' = there_below (folded v l i) c.args.was (known c.args.draft.now q n) was.like there in
     let over = over_is f l i c.requires.level in
     let at' = at_set old q f l i r (folded v l i) o w k (over_name f l i) c.args.halves.low c.args.halves.high e at there' over low high in

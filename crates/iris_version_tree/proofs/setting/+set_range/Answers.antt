@@ -11,7 +11,7 @@ use Rattle.std.proofs.Common.{ℕ, false, ◌≡◌, ◌≤◌, ◌<◌, ◌+◌
 use Rattle.std.proofs.lemmas.Result.{err_from_is_err_and}
 use Rattle.iris_node.specs.declared.node.Side.{Side}
 use Rattle.iris_shape.specs.Folds.{folded}
-use Rattle.iris_shape.specs.FoldLaws.{changed}
+use Rattle.iris_shape.specs.FoldLaws.{with_range_set}
 use Rattle.iris_shape.proofs.FoldProofs.{folded_even}
 use Rattle.iris_version_tree.specs.Reached.{IsSideOf}
 use Rattle.iris_version_tree.specs.Ranges.{Joins, Turns, IsMissing}
@@ -28,7 +28,7 @@ pub returns-then-past-span-clause-made : goal.returns-then-past-span-clause-made
 returns-then-past-span-clause-made t c = λ old v pic had u at.
     let l = c.args.level in
     let i = c.args.index in
-    let w = changed v c.args.span.low c.args.span.high c.args.span.version in
+    let w = with_range_set v c.args.span.low c.args.span.high c.args.span.version in
     let o : ((i + 1) * 2 ^ l ≤ c.args.span.low) ⊎ (c.args.span.high ≤ i * 2 ^ l) =
     elim c.then-past-span.branch [
       | then-past-span-via-then-past-span w ↦ inl (omega (arith, w.if-past-span.true))
@@ -41,7 +41,7 @@ pub returns-then-level-eq0-clause-made : goal.returns-then-level-eq0-clause-made
 returns-then-level-eq0-clause-made t c = λ old v pic had u at.
     let l = c.args.level in
     let i = c.args.index in
-    let w = changed v c.args.span.low c.args.span.high c.args.span.version in
+    let w = with_range_set v c.args.span.low c.args.span.high c.args.span.version in
     let z = at_zero l c.if-level-eq0.true in
     let a : c.args.span.low ≤ i * 2 ^ l = omega (arith, z, c.if-past-span.false, c.if-span-first.false) in
     let b : (i + 1) * 2 ^ l ≤ c.args.span.high = omega (arith, z, c.if-past-span.false, c.if-span-first.false) in (
@@ -53,7 +53,7 @@ pub returns-in-Fold-clause-made : goal.returns-in-Fold-clause-made
 returns-in-Fold-clause-made t c = λ old v pic had u at.
     let l = c.args.level in
     let i = c.args.index in
-    let w = changed v c.args.span.low c.args.span.high c.args.span.version in
+    let w = with_range_set v c.args.span.low c.args.span.high c.args.span.version in
     let a : c.args.span.low ≤ i * 2 ^ l = omega (arith, c.if-span-first-2.true) in
     let b : (i + 1) * 2 ^ l ≤ c.args.span.high = omega (arith, c.if-past-span-2.true) in
     let all = changed-in v c.args.span.low c.args.span.high c.args.span.version l i a b in
@@ -141,11 +141,11 @@ returns-clause-made t c =
     let s = c.args.span in
     let was = c.in_ok-was.was' in
     let J : Side → Type 0 = λ made. (old : Shown) (v w : ℕ → ℕ) → Joins old d2 d3 q f v w l i c.args.side c.in_ok-low.low c.in_ok-high.high made in
-    let R : Side → Type 0 = λ made. (old : Shown) (v : ℕ → ℕ) → Turns old d d3 q f v (changed v s.low s.high s.version) l i c.args.side made in
+    let R : Side → Type 0 = λ made. (old : Shown) (v : ℕ → ℕ) → Turns old d d3 q f v (with_range_set v s.low s.high s.version) l i c.args.side made in
     let F : Type 0 = (n : Name) → same_name (name.Part f l i) n ≡ false → drafted d3 n ≡ drafted d2 n in
     both c.join.result J F R
-    (λ made j frame old v. set_level old d d1 d2 d3 q f v (changed v s.low s.high s.version) l k i c.args.side was.low was.high c.in_ok-low.low c.in_ok-high.high made e c.in_ok-was.ensures.halves c.in_ok-was.ensures.known
-    (c.in_ok-low.ensures.made old v) c.in_ok-low.ensures.frame (c.in_ok-high.ensures.made old v) c.in_ok-high.ensures.frame (j old v (changed v s.low s.high s.version)) frame)
+    (λ made j frame old v. set_level old d d1 d2 d3 q f v (with_range_set v s.low s.high s.version) l k i c.args.side was.low was.high c.in_ok-low.low c.in_ok-high.high made e c.in_ok-was.ensures.halves c.in_ok-was.ensures.known
+    (c.in_ok-low.ensures.made old v) c.in_ok-low.ensures.frame (c.in_ok-high.ensures.made old v) c.in_ok-high.ensures.frame (j old v (with_range_set v s.low s.high s.version)) frame)
     c.join.ensures.made c.join.ensures.frame
   where
     both : (r : Result Side Short) (J : Side → Type 0) (F : Type 0) (R : Side → Type 0) → ((x : Side) → J x → F → R x) → IfOk r J → OnOk r F → IfOk r R

@@ -1,7 +1,7 @@
 use Rattle.std.proofs.lemmas.Result.{err_from_is_err_and}
 use Rattle.iris_name.specs.declared.name.Name.TheVariants as name
 use Rattle.iris_cache.specs.Drafted.{seen}
-use Rattle.iris_shape.specs.FoldLaws.{changed}
+use Rattle.iris_shape.specs.FoldLaws.{with_range_set}
 use Rattle.iris_version_tree.proofs.Plans.{short_of, under_of, side_of_top}
 use Rattle.iris_version_tree.proofs.Written.{drafts_after, file_seen, left, set, left_entry, set_entry, file_after, others_after}
 use Rattle.iris_version_tree.proofs.setting.plan_set.Goals as goal
@@ -18,7 +18,7 @@ returns-clause-set c = λ old new v pic had made tree rev.
     let e = c.set_entry.new.draft in
     let q = c.args.cache.now in
     let f = c.args.file in
-    let w = changed v c.args.low c.args.high c.args.version in
+    let w = with_range_set v c.args.low c.args.high c.args.version in
     let s = c.top_side-side.result in
     let is = c.top_side-side.ensures.side in
     let x = file_seen (seen d q (name.Entry f)) c.requires.entry in
@@ -32,7 +32,7 @@ returns-then-is_same_side-clause-set c = λ old new v pic had made tree rev.
     let d1 = c.set_range.new.draft in
     let q = c.args.cache.now in
     let f = c.args.file in
-    let w = changed v c.args.low c.args.high c.args.version in
+    let w = with_range_set v c.args.low c.args.high c.args.version in
     let s = c.top_side-side.result in
     let is = c.top_side-side.ensures.side in
     let x = file_seen (seen d q (name.Entry f)) c.requires.entry in

@@ -5,7 +5,7 @@ use Rattle.iris_name.specs.declared.note.Expect.TheVariants.{Hash}
 use Rattle.iris_node.specs.declared.node.Side.{Side}
 use Rattle.iris_node.specs.declared.node.Side.TheVariants.{Below}
 use Rattle.iris_shape.specs.Folds.{One, folded}
-use Rattle.iris_version_tree.specs.Sides.{toward}
+use Rattle.iris_version_tree.specs.Sides.{side_toward}
 use Rattle.iris_version_tree.specs.Reached.{IsSideOf, Reached}
 use Rattle.iris_version_tree.proofs.Levels.{fits_at}
 use Rattle.iris_version_tree.proofs.Tables.{same_one, below_two}
@@ -53,7 +53,7 @@ loop-step-preserved c = λ old new v pic.
     let w = c.args.cache.now in
     let z : n - 1 ≡ k = omega arith in
     let s = step_down old new d w c.args.file v c.args.place k n c.in-Some.part e pic (omega arith) (fits_at n c.args.place le c.requires.within) (sym c.in-Some.is ∙ c.in_ok-part.ensures.part) in
-    subst (λ s. Reached d w c.args.file v k (c.args.place / 2 ^ k) s) (ap (λ k. toward ((c.args.place / 2 ^ k) % 2) c.in-Some.part) (sym z) ∙ sym c.half_toward-side.ensures) s
+    subst (λ s. Reached d w c.args.file v k (c.args.place / 2 ^ k) s) (ap (λ k. side_toward ((c.args.place / 2 ^ k) % 2) c.in-Some.part) (sym z) ∙ sym c.half_toward-side.ensures) s
 
 pub returns-in-Fold-side-clause-even : goal.returns-in-Fold-side-clause-even
 returns-in-Fold-side-clause-even c = λ old new v pic.

@@ -1,7 +1,7 @@
 use Rattle.std.proofs.Common.{refl, arith}
 use Rattle.iris_name.specs.Names.{same_name}
 use Rattle.iris_name.specs.declared.name.Name.{Name}
-use Rattle.iris_cache.specs.Held.{edited}
+use Rattle.iris_cache.specs.Held.{edited_node}
 use Rattle.iris_cache.specs.Resident.{Resident}
 use Rattle.iris_cache.proofs.Hangs.{flagged-sound, flagged-homed, children-kept, keeps-node, keeps-kids, keeps-parent}
 use Rattle.iris_cache.proofs.cache.Cache.flag.Goals as goal
@@ -11,7 +11,7 @@ invariant_of-self c =
     let C : Resident = record { nodes = c.self.inside.nodes.entries; room = c.self.inside.places.keys } in
     let E : Resident = record { nodes = c.edit.new.nodes.entries; room = c.self.inside.places.keys } in
     let x = c.args.change in
-    let f = edited x in
+    let f = edited_node x in
     let n = c.args.name.now in
     let s = c.self.invariant.sound in
     let is = c.edit.ensures.nodes in

@@ -4,7 +4,7 @@ use Rattle.iris_name.specs.Names.{same_name}
 use Rattle.iris_node.specs.Nodes.{name_of}
 use Rattle.iris_cache.specs.declared.held.Held.{Held}
 use Rattle.iris_cache.specs.Held.{with_kids}
-use Rattle.iris_cache.specs.Resident.{Resident, held, has_room, children}
+use Rattle.iris_cache.specs.Resident.{Resident, held_node, has_room, children}
 use Rattle.iris_cache.proofs.Hangs.{put-sound, put-none, put-children}
 use Rattle.iris_cache.proofs.cache.Cache.put.Goals as goal
 
@@ -26,7 +26,7 @@ invariant_of-self c =
     let v : Held = with_kids c.count_children.result c.args.guest in
     let s = c.self.invariant.sound in
     let room : has_room C n ≡ true = ap (λ (k : Name). has_room C k) c.name-name.ensures ∙ ap (λ (r : Resident). has_room r N) c.self.view_is ∙ c.requires.room in
-    let absent : held C n ≡ None = s.empty n room in
+    let absent : held_node C n ≡ None = s.empty n room in
     let is = c.in-Ok.ensures.updates.0 in
     let a = c.in-Ok.ensures.len in
     let b = c.swap_remove.ensures.len in
@@ -49,6 +49,6 @@ returns-clause-nodes c = λ q.
     let C : Resident = record { nodes = c.self.inside.nodes.entries; room = c.self.inside.places.keys } in
     let k : c.count_children.result ≡ children c.args.self.now N = c.count_children.ensures ∙ ap (λ (k : Name). children C k) c.name-name.ensures ∙ ap (λ (r : Resident). children r N) c.self.view_is in
     c.in-Ok.ensures.updates.0 q
-    ∙ ap (λ (k : Name). cond (same_name k q) (Some (with_kids c.count_children.result c.args.guest)) (held C q)) c.name-name.ensures
-    ∙ ap (λ (m : ℕ). cond (same_name N q) (Some (with_kids m c.args.guest)) (held C q)) k
-    ∙ ap (λ (r : Resident). cond (same_name N q) (Some (with_kids (children c.args.self.now N) c.args.guest)) (held r q)) c.self.view_is
+    ∙ ap (λ (k : Name). cond (same_name k q) (Some (with_kids c.count_children.result c.args.guest)) (held_node C q)) c.name-name.ensures
+    ∙ ap (λ (m : ℕ). cond (same_name N q) (Some (with_kids m c.args.guest)) (held_node C q)) k
+    ∙ ap (λ (r : Resident). cond (same_name N q) (Some (with_kids (children c.args.self.now N) c.args.guest)) (held_node r q)) c.self.view_is

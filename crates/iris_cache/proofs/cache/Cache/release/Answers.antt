@@ -6,8 +6,8 @@ use Rattle.iris_name.specs.declared.name.Name.{Name}
 use Rattle.std.specs.Option.{option_map}
 use Rattle.std.specs.Map.{values_of}
 use Rattle.std.specs.List.{count_by}
-use Rattle.iris_cache.specs.Held.{unpinned, is_child}
-use Rattle.iris_cache.specs.Resident.{Resident, held, children}
+use Rattle.iris_cache.specs.Held.{unpinned_node, is_child}
+use Rattle.iris_cache.specs.Resident.{Resident, held_node, children}
 use Rattle.std.specs.Map.{lookup}
 use Rattle.iris_cache.proofs.Hangs.{flagged-sound, flagged-homed, children-all}
 use Rattle.iris_cache.proofs.cache.Cache.release.Goals as goal
@@ -16,10 +16,10 @@ pub invariant_of-self : goal.invariant_of-self
 invariant_of-self c =
     let C : Resident = record { nodes = c.self.inside.nodes.entries; room = c.self.inside.places.keys } in
     let E : Resident = record { nodes = c.unpin_all.new.nodes.entries; room = c.self.inside.places.keys } in
-    let f = unpinned c.args.who in
+    let f = unpinned_node c.args.who in
     let s = c.self.invariant.sound in
     let all = c.unpin_all.ensures.nodes in
-    let is : (q : Name) → held E q ≡ option_map f (held C q) = λ q. ap (λ l. lookup (same_name q) l) all ∙ lookup-map_values f (same_name q) C.nodes in
+    let is : (q : Name) → held_node E q ≡ option_map f (held_node C q) = λ q. ap (λ l. lookup (same_name q) l) all ∙ lookup-map_values f (same_name q) C.nodes in
     let oe = c.unpin_all.ensures.unique in
     let same : (q : Name) → children E q ≡ children C q = λ q. ap (λ l. count_by (is_child q) (values_of l)) all ∙ children-all q f (λ h. refl) C.nodes in
     let t : Name → Bool = λ q. true in
@@ -31,8 +31,8 @@ invariant_of-self c =
 
 pub returns-clause-nodes : goal.returns-clause-nodes
 returns-clause-nodes c = λ q.
-    ap (λ l. lookup (same_name q) l) c.unpin_all.ensures.nodes ∙ lookup-map_values (unpinned c.args.who) (same_name q) c.self.inside.nodes.entries
-    ∙ ap (λ (r : Resident). option_map (unpinned c.args.who) (held r q)) c.self.view_is
+    ap (λ l. lookup (same_name q) l) c.unpin_all.ensures.nodes ∙ lookup-map_values (unpinned_node c.args.who) (same_name q) c.self.inside.nodes.entries
+    ∙ ap (λ (r : Resident). option_map (unpinned_node c.args.who) (held_node r q)) c.self.view_is
 
 pub returns-clause-count : goal.returns-clause-count
 returns-clause-count c = ap length c.unpin_all.ensures.nodes ∙ length-map c.self.inside.nodes.entries _ ∙ ap (λ (r : Resident). length r.nodes) c.self.view_is

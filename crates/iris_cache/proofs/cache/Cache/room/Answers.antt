@@ -1,6 +1,6 @@
 use Rattle.std.proofs.Common.{◌≡◌, ◌+◌, ap, sym, ◌∙◌, arith, length, true, Bool, None, if◌then◌else◌, not}
 use Rattle.iris_name.specs.Names.{same_name}
-use Rattle.iris_cache.specs.Resident.{Resident, held}
+use Rattle.iris_cache.specs.Resident.{Resident, held_node}
 use Rattle.std.specs.Map.{lookup, values_of}
 use Rattle.std.specs.List.{count_by}
 use Rattle.iris_cache.specs.Held.{is_child}
@@ -13,7 +13,7 @@ invariant_of-self-2 c =
     let E : Resident = record { nodes = c.reserve.new.self.entries; room = c.insert.new.self.keys } in
     let n = c.args.name.now in
     let s = c.self.invariant.sound in
-    let absent : held C n ≡ None = not-there (held C n) (sym c.if-contains_key.ensures) in
+    let absent : held_node C n ≡ None = not-there (held_node C n) (sym c.if-contains_key.ensures) in
     let nodes = c.in_ok-reserve.ensures.entries in
     let l1 = c.len.ensures.len in
     let l2 = c.len-2.ensures.len in

@@ -5,7 +5,7 @@ use Rattle.std.specs.Map.{lookup, values_of}
 use Rattle.std.specs.List.{count_by, list_any}
 use Rattle.iris_cache.specs.Drafted.{is_set}
 use Rattle.iris_cache.specs.Held.{is_child}
-use Rattle.iris_cache.specs.Resident.{Resident, held, has_room}
+use Rattle.iris_cache.specs.Resident.{Resident, held_node, has_room}
 use Rattle.iris_cache.proofs.Hangs.{roomier-sound, still-free}
 use Rattle.iris_cache.proofs.cache.Cache.room_for.Goals as goal
 
@@ -17,7 +17,7 @@ invariant_of-self-2 c =
     let nodes = c.in_ok-reserve.ensures.entries in
     let keys = c.in_ok-reserve-2.ensures.keys in
     let sets : Name → Bool = λ q. is_set (lookup (same_name q) c.draft.inside.changes.entries) in
-    let room : (q : Name) → has_room E q ≡ (has_room C q || (sets q && not (is_some (held C q)))) = λ q.
+    let room : (q : Name) → has_room E q ≡ (has_room C q || (sets q && not (is_some (held_node C q)))) = λ q.
     c.place_all.ensures.names q
     ∙ ap (λ ks. list_any (same_name q) ks || (sets q && not (is_some (lookup (same_name q) c.reserve.new.self.entries)))) keys
     ∙ ap (λ l. has_room C q || (sets q && not (is_some (lookup (same_name q) l)))) nodes in

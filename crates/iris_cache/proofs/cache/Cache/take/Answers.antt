@@ -1,5 +1,5 @@
 use Rattle.std.proofs.Common.{◌≡◌, refl, ap, sym, ◌∙◌, Some, arith}
-use Rattle.iris_cache.specs.Resident.{Resident, held}
+use Rattle.iris_cache.specs.Resident.{Resident, held_node}
 use Rattle.iris_cache.proofs.Hangs.{take-sound, take-homed, or-parts, not-above}
 use Rattle.iris_cache.proofs.cache.Cache.take.Goals as goal
 
@@ -9,8 +9,8 @@ invariant_of-self c =
     let E : Resident = record { nodes = c.swap_remove.new.self.entries; room = c.self.inside.places.keys } in
     let n = c.args.name.now in
     let h = c.in-Some.held in
-    let at : held C n ≡ Some h = sym c.in-Some.ensures.value in
-    let alone = c.requires.alone h (sym (ap (λ r. held r n) c.self.view_is) ∙ at) in
+    let at : held_node C n ≡ Some h = sym c.in-Some.ensures.value in
+    let alone = c.requires.alone h (sym (ap (λ r. held_node r n) c.self.view_is) ∙ at) in
     let is = c.in-Some.ensures.updates.0 in
     let s = c.self.invariant.sound in
     record {

@@ -2,7 +2,7 @@ use Rattle.std.proofs.Common.{◌||◌, ap, sym, ◌∙◌, arith, None}
 use Rattle.iris_name.specs.Names.{same_name}
 use Rattle.iris_name.specs.NameLaws.{same_name_equiv}
 use Rattle.iris_name.specs.declared.name.Name.{Name}
-use Rattle.iris_cache.specs.Held.{under}
+use Rattle.iris_cache.specs.Held.{with_parent}
 use Rattle.iris_cache.specs.Applied.{bare}
 use Rattle.iris_cache.specs.Resident.{map_if}
 use Rattle.iris_cache.proofs.Drafts.{among, among-more, among-all}
@@ -18,10 +18,10 @@ loop-i-preserved c =
     record {
       nodes = λ q.
           c.unhang_one.ensures.nodes q
-          ∙ ap (map_if (same_name n q) (under None)) (c.loop-i.invariant.nodes q)
+          ∙ ap (map_if (same_name n q) (with_parent None)) (c.loop-i.invariant.nodes q)
           ∙ unhung-twice (among i es q) (same_name n q) (bare c.args.self.now q)
-          ∙ ap (λ b. map_if (among i es q || b) (under None) (bare c.args.self.now q)) (same_name_equiv.symm n q)
-          ∙ ap (λ b. map_if b (under None) (bare c.args.self.now q)) (sym (among-more es i n _ q at));
+          ∙ ap (λ b. map_if (among i es q || b) (with_parent None) (bare c.args.self.now q)) (same_name_equiv.symm n q)
+          ∙ ap (λ b. map_if b (with_parent None) (bare c.args.self.now q)) (sym (among-more es i n _ q at));
       room = c.unhang_one.ensures.room ∙ c.loop-i.invariant.room;
     }
 
@@ -29,4 +29,4 @@ pub returns-clause-nodes : goal.returns-clause-nodes
 returns-clause-nodes c = λ q.
     let end = c.loop-i-test.false in
     let l = c.len-i-end.ensures.len in
-    c.loop-i.invariant.nodes q ∙ ap (λ b. map_if b (under None) (bare c.args.self.now q)) (among-all c.args.changes.now.entries c.loop-i.i q (omega (arith, end, l)))
+    c.loop-i.invariant.nodes q ∙ ap (λ b. map_if b (with_parent None) (bare c.args.self.now q)) (among-all c.args.changes.now.entries c.loop-i.i q (omega (arith, end, l)))
