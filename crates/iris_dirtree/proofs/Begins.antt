@@ -22,7 +22,7 @@ use Rattle.iris_cache.specs.Drafted.{Drafted, seen, known, there_by}
 use Rattle.iris_cache.specs.Pictures.{Holds, BodyHolds, IsLike}
 use Rattle.iris_cache.proofs.Lacking.{unknown}
 use Rattle.iris_dirtree.specs.Descents.{IsWantedLink, WantsBelow, Seeking, IsStop}
-use Rattle.iris_dirtree.specs.Found.{as_entry, inside, body_inside}
+use Rattle.iris_dirtree.specs.Found.{entry_of_node, inside, body_inside}
 use Rattle.iris_dirtree.specs.Needs.{Listed, Lacks, IsShort, IsDirectory}
 use Rattle.iris_dirtree.specs.Nodes.{dir_top, body_top, IsTopLack}
 use Rattle.iris_dirtree.specs.Planted.{IsSubtreap}
@@ -34,7 +34,7 @@ use Rattle.iris_dirtree.proofs.Sizes.{above_larger}
 use Rattle.iris_dirtree.proofs.Sees.{Sees, sees_drafts, wanted, root_wanted}
 use Rattle.iris_dirtree.proofs.Stands.{led_named, link_holds, top_way, root_name}
 
-top_inside : (o : Option Node) (top : Option Link) → dir_top o ≡ Some top → top ≡ inside (as_entry o)
+top_inside : (o : Option Node) (top : Option Link) → dir_top o ≡ Some top → top ≡ inside (entry_of_node o)
 top_inside None top h = cc
 top_inside (Some (node.Part p)) top h = cc
 top_inside (Some (node.Entry e)) top h = by e.body h

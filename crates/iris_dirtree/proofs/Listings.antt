@@ -22,7 +22,7 @@ use Rattle.iris_cache.proofs.Lacking.{unknown}
 use Rattle.iris_dirtree.specs.Needs.{IsShort, Listed}
 use Rattle.iris_dirtree.specs.Rows.{Row, row_name, row_entry, unfolded_rows, up}
 use Rattle.iris_dirtree.specs.Ways.{Any, up_to, along_name, along_each, along_page, following}
-use Rattle.iris_dirtree.specs.Found.{as_entry, inside}
+use Rattle.iris_dirtree.specs.Found.{entry_of_node, inside}
 use Rattle.iris_dirtree.specs.Piles.{whole, right as right_part, Passed, passed_id, to_list, IsPassed, Tables, Piled, Piling, IsUnderShort}
 use Rattle.iris_dirtree.proofs.Sees.{Sees, sees_drafts}
 use Rattle.iris_dirtree.proofs.Likes.{like_row, above_more}
@@ -87,7 +87,7 @@ module _ (key after : List ℕ) (most : ℕ) (dir : FileId) (d : Drafted) (c : R
   high_is : skip (up_to after) all ≡ rows (high (up_to after) T)
   high_is = sym (rows_high (up_to after) T (falls_up_to after (rows T) rises) ∙ ap (skip (up_to after)) (rows_treap (up key) all))
 
-  pub page_top : (top : Option Link) → IsSome (known d c (name.Entry dir)) → top ≡ inside (as_entry (seen d c (name.Entry dir))) → Page key after most old new d c all [] [] top 0
+  pub page_top : (top : Option Link) → IsSome (known d c (name.Entry dir)) → top ≡ inside (entry_of_node (seen d c (name.Entry dir))) → Page key after most old new d c all [] [] top 0
   page_top top some e = record {
     done = [];
     left = rows (high (up_to after) T);
@@ -129,17 +129,17 @@ module _ (key after : List ℕ) (most : ℕ) (dir : FileId) (d : Drafted) (c : R
       s.names_are ∙ ap (map row_name) (sym (ap (λ k. take k (skip (up_to after) all)) k ∙ ap (take (length s.done)) s.parts ∙ take-append_seam s.done s.left))
 
   -- what waits is seen
-  pub page_gone : {P : Type 0} (left : List Row) (waiting rest : List FileId) (id : FileId) → Piled new d c T left waiting → waiting ≡ rest ++ id ∷ [] → None ≡ as_entry (seen d c (name.Entry id)) → P
+  pub page_gone : {P : Type 0} (left : List Row) (waiting rest : List FileId) (id : FileId) → Piled new d c T left waiting → waiting ≡ rest ++ id ∷ [] → None ≡ entry_of_node (seen d c (name.Entry id)) → P
   page_gone left waiting rest id z e none =
       let l = last_of rest id z.pile (sym z.ids_are ∙ e) in
       let one = (each_right (IsPassed new d c T) l.front (l.last ∷ []) (subst (Each (IsPassed new d c T)) l.is z.passed)).0 in
       let at : seen d c (name.Entry id) ≡ Some (node.Entry l.last.entry) = ap (λ i. seen d c (name.Entry i)) (sym l.last_is) ∙ one.is_seen in
-      let f : None ≡ Some l.last.entry = none ∙ ap as_entry at in
+      let f : None ≡ Some l.last.entry = none ∙ ap entry_of_node at in
       cc
 
   -- the next row is listed
   pub page_next : (names : List (List ℕ)) (ids waiting rest : List FileId) (at : Option Link) (i : ℕ) (id : FileId) (e : EntryFields) (s : Page key after most old new d c all names ids at i) → Piled new d c T s.left waiting → waiting ≡ rest ++ id ∷ []
-      → Some e ≡ as_entry (seen d c (name.Entry id)) → Page key after most old new d c all (names ++ e.name ∷ []) rest e.right (suc i)
+      → Some e ≡ entry_of_node (seen d c (name.Entry id)) → Page key after most old new d c all (names ++ e.name ∷ []) rest e.right (suc i)
   page_next names ids waiting rest at i id e s z w there =
       let p = up_to after in
       let l = last_of rest id z.pile (sym z.ids_are ∙ w) in

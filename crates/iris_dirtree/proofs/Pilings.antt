@@ -22,7 +22,7 @@ use Rattle.iris_cache.specs.Drafted.{Drafted, known, seen}
 use Rattle.iris_dirtree.specs.Needs.{IsWanted}
 use Rattle.iris_dirtree.specs.Rows.{Row, row_entry, unfolded_rows}
 use Rattle.iris_dirtree.specs.Ways.{Any, up_to}
-use Rattle.iris_dirtree.specs.Found.{as_entry}
+use Rattle.iris_dirtree.specs.Found.{entry_of_node}
 use Rattle.iris_dirtree.specs.Piles.{Sub, left as left_part, right as right_part, Passed, passed_id, to_list, IsPassed, Tables, Piled, Piling, LacksUnder, IsUnderShort}
 use Rattle.iris_dirtree.proofs.Sees.{Sees, sees_drafts}
 use Rattle.iris_dirtree.proofs.Likes.{leads_empty, leads_over}
@@ -52,7 +52,7 @@ module _ (after : List ℕ) (d : Drafted) (c : Resident) (old new : Shown) (all 
   piling_long ids at k le s = let b = past_bound new d c (suc k) _ s.leads.past in absurd (omega arith)
 
   module _ (ids : List FileId) (l : Link) (k : ℕ) (s : Piling old new d c after all begin left ids (Some l) k) where
-    pub piling_gone : {P : Type 0} → IsSome (known d c (name.Entry l.id)) → None ≡ as_entry (seen d c (name.Entry l.id)) → P
+    pub piling_gone : {P : Type 0} → IsSome (known d c (name.Entry l.id)) → None ≡ entry_of_node (seen d c (name.Entry l.id)) → P
     piling_gone some none = absurd (no_entry old new d c see s.under l k s.leads some none)
 
     pub piling_lacks : known d c (name.Entry l.id) ≡ None → Any (λ (r : Row). name.Entry l.id ≡ name.Entry (id_of r.id)) (way (up_to after) begin) × IsWanted old new c (name.Entry l.id) (Hash l.hash)
@@ -61,7 +61,7 @@ module _ (after : List ℕ) (d : Drafted) (c : Resident) (old new : Shown) (all 
         let P : Row → Type 0 = λ r. name.Entry l.id ≡ name.Entry (id_of r.id) in
         (s.meets (name.Entry l.id) (subst (λ w. Any P (way (up_to after) w)) (sym t.is) (inl (ap (λ i. name.Entry i) t.id_is))), (s.leads.stands l refl).wanted missing)
 
-    module _ (e : EntryFields) (at : Some e ≡ as_entry (seen d c (name.Entry l.id))) where
+    module _ (e : EntryFields) (at : Some e ≡ entry_of_node (seen d c (name.Entry l.id))) where
       h : Here old new d c s.under l e k
       h = here old new d c see s.under l e k s.leads at
 

@@ -30,7 +30,7 @@ use Rattle.iris_dirtree.specs.Turns.{IsTurn, block_found}
 use Rattle.iris_dirtree.specs.Ways.{Any}
 use Rattle.iris_dirtree.specs.Below.{RootIs, IsOnWayToBlock, LacksBelow, IsBelowLack}
 use Rattle.iris_dirtree.specs.Reached.{size, MetInOrder, Stand}
-use Rattle.iris_dirtree.specs.Found.{as_entry}
+use Rattle.iris_dirtree.specs.Found.{entry_of_node}
 use Rattle.iris_dirtree.specs.declared.placing.Turn.TheVariants.{Own, Under}
 use Rattle.iris_dirtree.proofs.Sees.{Sees, sees_drafts, root_wanted}
 use Rattle.iris_dirtree.proofs.Pasts.{past_bound}
@@ -79,10 +79,10 @@ module _ (root : FileId) (d : Drafted) (c : Resident) (old new : Shown) (top : U
       }
 
   -- the entry under a name, as it is seen
-  pub like_there : (id : FileId) (u : Unfolded) (e : EntryFields) → new (name.Entry id) ≡ Some u → Some e ≡ as_entry (seen d c (name.Entry id)) → local u ≡ Some (entry_local e e.body)
+  pub like_there : (id : FileId) (u : Unfolded) (e : EntryFields) → new (name.Entry id) ≡ Some u → Some e ≡ entry_of_node (seen d c (name.Entry id)) → local u ≡ Some (entry_local e e.body)
   like_there id u e live at = subst (λ o. IsLike o (node.Entry e)) live (see.nodes (name.Entry id) (node.Entry e) (is_entry (seen d c (name.Entry id)) e at))
 
-  pub not_seen : (id : FileId) (u : Unfolded) → new (name.Entry id) ≡ Some u → IsSome (known d c (name.Entry id)) → None ≡ as_entry (seen d c (name.Entry id)) → ⊥
+  pub not_seen : (id : FileId) (u : Unfolded) → new (name.Entry id) ≡ Some u → IsSome (known d c (name.Entry id)) → None ≡ entry_of_node (seen d c (name.Entry id)) → ⊥
   not_seen id u live some none =
       let n = name.Entry id in
       no_entry_by (new n) u (known d c n) live some none (see.gone n tt)
@@ -92,13 +92,13 @@ module _ (root : FileId) (d : Drafted) (c : Resident) (old new : Shown) (top : U
     pub sunk_lacks : known d c (name.Entry l.id) ≡ None → IsOnWayToBlock root at top (name.Entry l.id) × IsWanted old new c (name.Entry l.id) (Hash l.hash)
     sunk_lacks missing = (s.on, s.stand.wanted missing)
 
-    pub sunk_gone : {P : Type 0} → IsSome (known d c (name.Entry l.id)) → None ≡ as_entry (seen d c (name.Entry l.id)) → P
+    pub sunk_gone : {P : Type 0} → IsSome (known d c (name.Entry l.id)) → None ≡ entry_of_node (seen d c (name.Entry l.id)) → P
     sunk_gone some none = absurd (not_seen l.id s.under s.stand.live some none)
 
     pub sunk_long : {P : Type 0} → length d.changes + length c.nodes < k → P
     sunk_long lt = let b = past_bound new d c k _ s.past in absurd (omega arith)
 
-    module _ (e : EntryFields) (there : Some e ≡ as_entry (seen d c (name.Entry l.id))) where
+    module _ (e : EntryFields) (there : Some e ≡ entry_of_node (seen d c (name.Entry l.id))) where
       like : local s.under ≡ Some (entry_local e e.body)
       like = like_there l.id s.under e s.stand.live there
 
@@ -130,7 +130,7 @@ module _ (root : FileId) (d : Drafted) (c : Resident) (old new : Shown) (top : U
           }
 
   -- all blocks at and below the root
-  pub root_blocks : (e : EntryFields) → Some e ≡ as_entry (seen d c (name.Entry root)) → node_blocks e ≡ blocks top
+  pub root_blocks : (e : EntryFields) → Some e ≡ entry_of_node (seen d c (name.Entry root)) → node_blocks e ≡ blocks top
   root_blocks e there = like_blocks top e e.body (like_there root top e is.live there)
 
 -- why the search stops

@@ -18,7 +18,7 @@ use Rattle.iris_dirtree.specs.Rows.{Row, row_name, unfolded_rows, up}
 use Rattle.iris_dirtree.specs.Ways.{Any, along, along_name, is_row_before, has_name, IsNamed}
 use Rattle.iris_dirtree.specs.Needs.{IsWanted, Listed}
 use Rattle.iris_dirtree.specs.Reached.{Way}
-use Rattle.iris_dirtree.specs.Found.{as_entry, inside}
+use Rattle.iris_dirtree.specs.Found.{entry_of_node, inside}
 use Rattle.iris_dirtree.proofs.Sees.{Sees, sees_drafts}
 use Rattle.iris_dirtree.proofs.Likes.{leads_empty, leads_over}
 use Rattle.iris_dirtree.proofs.Pasts.{past_bound}
@@ -32,7 +32,7 @@ pub record Search (key : List ℕ) (n : List ℕ) (old new : Shown) (d : Drafted
   pub down : Down (is_row_before n) (has_name n) (treap (up key) rows) rest
 
 pub search_top : (key n : List ℕ) (dir : FileId) (d : Drafted) (c : Resident) (old new : Shown) (rows : List Row) (top : Option Link) → Listed key dir d c old new rows → IsSome (known d c (name.Entry dir))
-    → top ≡ inside (as_entry (seen d c (name.Entry dir))) → Search key n old new d c rows top 1
+    → top ≡ inside (entry_of_node (seen d c (name.Entry dir))) → Search key n old new d c rows top 1
 search_top key n dir d c old new rows top pic some e =
     record { rest = treap (up key) rows; way = top_way old new d c (sees_drafts old new d c pic.was pic.is pic.drafts) key dir rows top pic.rows_are some e; down = at_top }
 
@@ -55,7 +55,7 @@ module _ (key n : List ℕ) (dir : FileId) (d : Drafted) (c : Resident) (old new
   pub search_long : {P : Type 0} (at : Option Link) (k : ℕ) → length d.changes + length c.nodes ≤ k → Search key n old new d c rows at (suc k) → P
   search_long at k le s = let b = past_bound new d c (suc k) _ s.way.past in absurd (omega arith)
 
-  pub search_gone : {P : Type 0} (l : Link) (k : ℕ) → Search key n old new d c rows (Some l) k → IsSome (known d c (name.Entry l.id)) → None ≡ as_entry (seen d c (name.Entry l.id)) → P
+  pub search_gone : {P : Type 0} (l : Link) (k : ℕ) → Search key n old new d c rows (Some l) k → IsSome (known d c (name.Entry l.id)) → None ≡ entry_of_node (seen d c (name.Entry l.id)) → P
   search_gone l k s some none = absurd (no_entry old new d c see s.rest l k s.way some none)
 
   -- what is missing is met
@@ -66,7 +66,7 @@ module _ (key n : List ℕ) (dir : FileId) (d : Drafted) (c : Resident) (old new
       let P : Row → Type 0 = λ r. name.Entry l.id ≡ name.Entry (id_of r.id) in
       (down_along P (is_row_before n) (has_name n) (treap (up key) rows) s.rest s.down (subst (λ w. Any P (along (is_row_before n) (has_name n) w)) (sym t.is) (inl (ap (λ i. name.Entry i) t.id_is))), (s.way.stands l refl).wanted missing)
 
-  module _ (l : Link) (k : ℕ) (e : EntryFields) (s : Search key n old new d c rows (Some l) k) (at : Some e ≡ as_entry (seen d c (name.Entry l.id))) where
+  module _ (l : Link) (k : ℕ) (e : EntryFields) (s : Search key n old new d c rows (Some l) k) (at : Some e ≡ entry_of_node (seen d c (name.Entry l.id))) where
     h : Here old new d c s.rest l e k
     h = here old new d c see s.rest l e k s.way at
 

@@ -25,7 +25,7 @@ use Rattle.iris_cache.proofs.Lacking.{unknown}
 use Rattle.iris_dirtree.specs.Rows.{Row, row_entry, unfolded_rows, up, HasRows, IsRootName}
 use Rattle.iris_dirtree.specs.Ways.{Any}
 use Rattle.iris_dirtree.specs.Needs.{IsWanted, IsDirectory, IsDirNode, IsLack, Lacks, Listed}
-use Rattle.iris_dirtree.specs.Found.{as_entry, inside, body_inside}
+use Rattle.iris_dirtree.specs.Found.{entry_of_node, inside, body_inside}
 use Rattle.iris_dirtree.specs.Reached.{size, MetInOrder, Way}
 use Rattle.iris_dirtree.proofs.Sees.{Sees, sees_drafts, wanted, root_wanted}
 use Rattle.iris_dirtree.proofs.Likes.{roof, LikeRow, like_row, like_part, leads_over, lead_id, above_less, above_more}
@@ -47,7 +47,7 @@ led_named (Stored v bytes) l h = cc
 pub link_holds : (o : Option Link) (l : Link) → o ≡ Some l → LinkHolds o (name.Entry l.id) l.hash
 link_holds o l e = subst (λ o. LinkHolds o (name.Entry l.id) l.hash) (sym e) (refl, refl)
 
-pub is_entry : (o : Option Node) (e : EntryFields) → Some e ≡ as_entry o → o ≡ Some (node.Entry e)
+pub is_entry : (o : Option Node) (e : EntryFields) → Some e ≡ entry_of_node o → o ≡ Some (node.Entry e)
 is_entry None e h = cc
 is_entry (Some (node.Part p)) e h = cc
 is_entry (Some (node.Entry x)) e h = let q : x ≡ e = cc in ap (λ x. Some (node.Entry x)) q
@@ -61,7 +61,7 @@ body_holds id (Dir top) l e = link_holds top l e
 body_holds id (FileBody size counter versions) l e = cc
 
 -- an entry that is live and known is seen
-pub no_entry_by : (t : Option Unfolded) (u : Unfolded) (o : Option (Option Node)) → t ≡ Some u → IsSome o → None ≡ as_entry (there_by o) → (o ≡ Some None → t ≡ None) → ((p : PartFields) → there_by o ≡ Some (node.Part p) → ⊥) → ⊥
+pub no_entry_by : (t : Option Unfolded) (u : Unfolded) (o : Option (Option Node)) → t ≡ Some u → IsSome o → None ≡ entry_of_node (there_by o) → (o ≡ Some None → t ≡ None) → ((p : PartFields) → there_by o ≡ Some (node.Part p) → ⊥) → ⊥
 no_entry_by t u None live some none gone part = let e : false ≡ true = some in cc
 no_entry_by t u (Some None) live some none gone part = let e = gone refl in cc
 no_entry_by t u (Some (Some (node.Part p))) live some none gone part = part p refl
@@ -96,7 +96,7 @@ module _ (old new : Shown) (d : Drafted) (c : Resident) (see : Sees old new d c)
       }
 
   -- at a row whose entry is seen
-  pub here : (w : Treap Row) (l : Link) (e : EntryFields) (k : ℕ) → Way old new d c (unfolded_rows w) (Some l) k → Some e ≡ as_entry (seen d c (name.Entry l.id)) → Here old new d c w l e k
+  pub here : (w : Treap Row) (l : Link) (e : EntryFields) (k : ℕ) → Way old new d c (unfolded_rows w) (Some l) k → Some e ≡ entry_of_node (seen d c (name.Entry l.id)) → Here old new d c w l e k
   here w l e k way at =
       let t = leads_over w l way.leads in
       let n = name.Entry l.id in
@@ -117,7 +117,7 @@ module _ (old new : Shown) (d : Drafted) (c : Resident) (see : Sees old new d c)
       }
 
   -- where a way goes on, the entry is seen if it is known
-  pub no_entry : (w : Treap Row) (l : Link) (k : ℕ) → Way old new d c (unfolded_rows w) (Some l) k → IsSome (known d c (name.Entry l.id)) → None ≡ as_entry (seen d c (name.Entry l.id)) → ⊥
+  pub no_entry : (w : Treap Row) (l : Link) (k : ℕ) → Way old new d c (unfolded_rows w) (Some l) k → IsSome (known d c (name.Entry l.id)) → None ≡ entry_of_node (seen d c (name.Entry l.id)) → ⊥
   no_entry w l k way some none =
       let t = leads_over w l way.leads in
       let n = name.Entry l.id in
@@ -126,7 +126,7 @@ module _ (old new : Shown) (d : Drafted) (c : Resident) (see : Sees old new d c)
       no_entry_by (new n) u (known d c n) live some none (see.gone n tt) (λ p at. like_part t.row (unfolded_rows t.less) (unfolded_rows t.more) p (subst (λ o. IsLike o (node.Part p)) live (see.nodes n (node.Part p) at)))
 
   top_by : (dir : FileId) (u w : Unfolded) (label : List ℕ) (less more : Unfolded) (top : Option Link) (o : Option (Option Node)) → known d c (name.Entry dir) ≡ o → new (name.Entry dir) ≡ Some u → u ≡ Folder dir.0 label less more w → IsAbove u w
-      → IsSome o → top ≡ inside (as_entry (there_by o)) → Way old new d c w top 1
+      → IsSome o → top ≡ inside (entry_of_node (there_by o)) → Way old new d c w top 1
   top_by dir u w label less more top None at live is above some e = absurd (let e : false ≡ true = some in cc)
   top_by dir u w label less more top (Some None) at live is above some e = let g = see.gone (name.Entry dir) tt at in cc
   top_by dir u w label less more top (Some (Some (node.Part p))) at live is above some e =
@@ -137,7 +137,7 @@ module _ (old new : Shown) (d : Drafted) (c : Resident) (see : Sees old new d c)
       let t = inside_by dir.0 label less more w x x.body like in
       way_down (name.Entry dir) u w (node.Entry x) top 0 live sees above (ap led_by e ∙ t) (λ l q. inr (inr (body_holds x.id x.body l (sym e ∙ q)))) tt
 
-  pub top_way : (key : List ℕ) (dir : FileId) (rows : List Row) (top : Option Link) → HasRows new key dir rows → IsSome (known d c (name.Entry dir)) → top ≡ inside (as_entry (seen d c (name.Entry dir)))
+  pub top_way : (key : List ℕ) (dir : FileId) (rows : List Row) (top : Option Link) → HasRows new key dir rows → IsSome (known d c (name.Entry dir)) → top ≡ inside (entry_of_node (seen d c (name.Entry dir)))
       → Way old new d c (unfolded_rows (treap (up key) rows)) top 1
   top_way key dir rows top has some e =
       let r = roof new key dir rows has in

@@ -10,10 +10,10 @@ use Rattle.iris_node.specs.declared.node.Node.TheVariants as node
 use Rattle.iris_node.specs.Fields.{EntryFields}
 
 -- the entry, if a node is one
-abbrev pub as_entry : Option Node → Option EntryFields
-as_entry None = None
-as_entry (Some (node.Part p)) = None
-as_entry (Some (node.Entry e)) = Some e
+abbrev pub entry_of_node : Option Node → Option EntryFields
+entry_of_node None = None
+entry_of_node (Some (node.Part p)) = None
+entry_of_node (Some (node.Entry e)) = Some e
 
 abbrev pub body_inside : Body → Option Link
 body_inside (Dir top) = top

@@ -7,7 +7,7 @@ ghost use Rattle.iris_cache.specs.Drafted.{known, seen};
 ghost use Rattle.iris_dirtree.specs.Rows.{Row};
 ghost use Rattle.iris_dirtree.specs.Ways.{IsNamed, along_name};
 ghost use Rattle.iris_dirtree.specs.Needs.{IsDirectory, Listed, IsLack};
-ghost use Rattle.iris_dirtree.specs.Found.{as_entry, inside, id_found};
+ghost use Rattle.iris_dirtree.specs.Found.{entry_of_node, inside, id_found};
 
 use crate::nodes::stands_before;
 use iris_cache::{Cache, Draft, Short};
@@ -16,7 +16,7 @@ use iris_node::{Body, EntryNode, Link, Node};
 
 /// The entry, if a node is one.
 pub(crate) fn as_entry<'a>(node: Option<&'a Node>) -> Option<&'a EntryNode>
-    ensures { option_copied result ≡ as_entry (option_copied node.entry) }
+    ensures { option_copied result ≡ entry_of_node (option_copied node.entry) }
 {
     match node {
         Some(Node::Entry(entry)) => Some(entry),
@@ -31,7 +31,7 @@ pub(crate) fn entry_seen<'a>(
     id: FileId,
     hash: Hash32,
 ) -> Result<Option<&'a EntryNode>, Short>
-    ensures entry { IfOk result (λ e. option_copied e ≡ as_entry (seen draft.now cache.now (Name.Entry id))) }
+    ensures entry { IfOk result (λ e. option_copied e ≡ entry_of_node (seen draft.now cache.now (Name.Entry id))) }
     ensures known { IfOk result (λ _. IsSome (known draft.now cache.now (Name.Entry id))) }
     ensures need { IfErr result (λ e. e ≡ Short.Need (Name.Entry id) (Expect.Hash hash)) }
     ensures missing { IfErr result (λ _. known draft.now cache.now (Name.Entry id) ≡ None) }
@@ -61,7 +61,7 @@ fn link_inside(entry: Option<&EntryNode>) -> Option<Link>
 
 /// The link inside a directory.
 pub(crate) fn top_seen(draft: &Draft, cache: &Cache, dir: FileId) -> Result<Option<Link>, Short>
-    ensures top { IfOk result (λ top. top ≡ inside (as_entry (seen draft.now cache.now (Name.Entry dir)))) }
+    ensures top { IfOk result (λ top. top ≡ inside (entry_of_node (seen draft.now cache.now (Name.Entry dir)))) }
     ensures known { IfOk result (λ _. IsSome (known draft.now cache.now (Name.Entry dir))) }
     ensures need { IfErr result (λ e. e ≡ Short.Need (Name.Entry dir) (Expect.Hash ANY_HASH)) }
     ensures missing { IfErr result (λ _. known draft.now cache.now (Name.Entry dir) ≡ None) }

@@ -10,7 +10,7 @@ ghost use Rattle.iris_cache.specs.Drafted.{seen};
 ghost use Rattle.iris_dirtree.specs.Rows.{Row, row_name};
 ghost use Rattle.iris_dirtree.specs.Ways.{following, along_page};
 ghost use Rattle.iris_dirtree.specs.Needs.{IsDirectory, Listed, IsShort};
-ghost use Rattle.iris_dirtree.specs.Found.{as_entry};
+ghost use Rattle.iris_dirtree.specs.Found.{entry_of_node};
 ghost use Rattle.iris_dirtree.specs.Piles.{Tables, Piled, Piling, IsUnderShort};
 
 use crate::finding::{as_entry, entry_seen, longest_way, top_seen};
@@ -22,7 +22,7 @@ use std::alloc::Global;
 
 // The entry of an id, where it is seen.
 fn entry_of<'a>(draft: &'a Draft, cache: &'a Cache, id: FileId) -> Option<&'a EntryNode>
-    ensures { option_copied result ≡ as_entry (seen draft.now cache.now (name.Entry id)) }
+    ensures { option_copied result ≡ entry_of_node (seen draft.now cache.now (name.Entry id)) }
 {
     as_entry(draft.view(cache, &Name::Entry { id }))
 }

@@ -157,9 +157,9 @@ part_again p rest h =
 ended : (bytes text rest : List ℕ) → Takes bytes text rest → (length rest == 0) ≡ true → bytes ≡ text
 ended bytes text rest t h = t.parts ∙ ap (λ (r : List ℕ). text ++ r) (nil_from_length rest (eqb-true (length rest) 0 h)) ∙ append-nil text
 
-whole_part : (format : ℕ) (bytes : List ℕ) (p : PartFields) → IsBytes bytes → whole_part format bytes ≡ Some p → (IsPart p × FitsPart p) × (format ≡ 1) × (bytes ≡ part p)
+part_is_whole : (format : ℕ) (bytes : List ℕ) (p : PartFields) → IsBytes bytes → whole_part format bytes ≡ Some p → (IsPart p × FitsPart p) × (format ≡ 1) × (bytes ≡ part p)
 unfolding whole_part
-whole_part format bytes p fits e =
+part_is_whole format bytes p fits e =
     let a = bind_some (part_at bytes) (λ x. cond ((format == 1) && ((length x.1 == 0) && is_part x.0)) (Some x.0) None) p e in
     let m = met_some ((format == 1) && ((length a.0.1 == 0) && is_part a.0.0)) a.0.0 p a.2 in
     let f = and_parts _ _ m.0 in
@@ -168,9 +168,9 @@ whole_part format bytes p fits e =
     subst (λ (y : PartFields). (IsPart y × FitsPart y) × (format ≡ 1) × (bytes ≡ part y)) m.1
     ((part_kept a.0.0 g.1, t.1), eqb-true format 1 f.0, ended bytes (part a.0.0) a.0.1 t.0 g.0)
 
-whole_entry : (format k : ℕ) (bytes : List ℕ) (e : EntryFields) → IsBytes bytes → whole_entry format k bytes ≡ Some e → (IsEntry e × FitsEntry e) × (format ≡ 1) × (k ≡ kind_byte e.body) × (bytes ≡ spelled_entry e)
+entry_is_whole : (format k : ℕ) (bytes : List ℕ) (e : EntryFields) → IsBytes bytes → whole_entry format k bytes ≡ Some e → (IsEntry e × FitsEntry e) × (format ≡ 1) × (k ≡ kind_byte e.body) × (bytes ≡ spelled_entry e)
 unfolding whole_entry
-whole_entry format k bytes e fits h =
+entry_is_whole format k bytes e fits h =
     let a = bind_some (read_entry k bytes) (λ x. cond ((format == 1) && ((length x.1 == 0) && is_entry x.0)) (Some x.0) None) e h in
     let m = met_some ((format == 1) && ((length a.0.1 == 0) && is_entry a.0.0)) a.0.0 e a.2 in
     let f = and_parts _ _ m.0 in
@@ -196,12 +196,12 @@ node_takes (f ∷ k ∷ bytes) n fits e =
     either_way (k == 3) (whole_part f bytes >>= λ p. Some (Part p)) (whole_entry f k bytes >>= λ x. Some (Entry x)) (Some n) (Found (f ∷ k ∷ bytes) n)
     (λ t h.
     let a = bind_some (whole_part f bytes) (λ p. Some (Part p)) n h in
-    let w = whole_part f bytes a.0 inner a.1 in
+    let w = part_is_whole f bytes a.0 inner a.1 in
     let same : f ∷ k ∷ bytes ≡ 1 ∷ 3 ∷ part a.0 = let x = w.1 in let y : k ≡ 3 = eqb-true k 3 t in let z = w.2 in cc in
     subst (Found (f ∷ k ∷ bytes)) (some_is (Part a.0) n a.2) (w.0, same))
     (λ h.
     let a = bind_some (whole_entry f k bytes) (λ x. Some (Entry x)) n h in
-    let w = whole_entry f k bytes a.0 inner a.1 in
+    let w = entry_is_whole f k bytes a.0 inner a.1 in
     let same : f ∷ k ∷ bytes ≡ 1 ∷ kind_byte a.0.body ∷ spelled_entry a.0 = let x = w.1 in let y = w.2 in let z = w.3 in cc in
     subst (Found (f ∷ k ∷ bytes)) (some_is (Entry a.0) n a.2) (w.0, same))
     e

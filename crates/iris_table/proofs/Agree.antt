@@ -44,21 +44,21 @@ seen_same Through h = refl
 pub met_same : (t : Table) → AreGood t.visible → seen_at (view t).files ≡ seen_in t
 met_same t g = λ i ns. (seen_walk ns (λ q. kind_below q (root_row t)) ∙ ap seen (walk_look ns (root_row t)) ∙ seen_same (met t ns) (λ row e. (good_at ns (root_row t) row e tt g).0)) i
 
-abbrev pub kind_of : Found → Option Kind
-kind_of (Here row) = Some (kind_of row.file)
-kind_of Missing = None
-kind_of Through = None
+abbrev pub kind_found : Found → Option Kind
+kind_found (Here row) = Some (kind_of row.file)
+kind_found Missing = None
+kind_found Through = None
 
-pub look_resolved : (ns : List (List ℕ)) (row : Taken) → kind_below ns row ≡ kind_of (resolved ns row)
+pub look_resolved : (ns : List (List ℕ)) (row : Taken) → kind_below ns row ≡ kind_found (resolved ns row)
 look_resolved [] row = refl
 look_resolved (n ∷ ns) row = by row.file (find n row.inside) (look_resolved ns) where
-  by : (file : Option File) (o : Option Taken) → ((below : Taken) → kind_below ns below ≡ kind_of (resolved ns below))
-      → into file (bound o (λ below. kind_below ns below)) ≡ kind_of (entered file (followed o (λ below. resolved ns below)))
+  by : (file : Option File) (o : Option Taken) → ((below : Taken) → kind_below ns below ≡ kind_found (resolved ns below))
+      → into file (bound o (λ below. kind_below ns below)) ≡ kind_found (entered file (followed o (λ below. resolved ns below)))
   by None None h = refl
   by None (Some below) h = h below
   by (Some f) o h = refl
 
-dir_kind : (found : Found) → seen_row found ≡ ADir → kind_of found ≡ Some Dir
+dir_kind : (found : Found) → seen_row found ≡ ADir → kind_found found ≡ Some Dir
 dir_kind (Here row) e = by row.file e where
   by : (file : Option File) → seen_file file ≡ ADir → Some (kind_of file) ≡ Some Dir
   by None e = refl
@@ -66,7 +66,7 @@ dir_kind (Here row) e = by row.file e where
 dir_kind Missing e = absurd (cc)
 dir_kind Through e = absurd (cc)
 
-no_kind : (found : Found) → is_there (seen_row found) ≡ false → kind_of found ≡ None
+no_kind : (found : Found) → is_there (seen_row found) ≡ false → kind_found found ≡ None
 no_kind (Here row) e = by row.file e where
   by : (file : Option File) → is_there (seen_file file) ≡ false → Some (kind_of file) ≡ None
   by None e = absurd (cc)

@@ -26,7 +26,7 @@ use Rattle.iris_name.specs.declared.request.Request.{Request}
 use Rattle.iris_name.specs.declared.request.Request.TheVariants.{Mkdir, Create, Write, Read, Resize, Stat, List as ListNames, Rename, Remove, Sync, Root, Reclaim, Probe}
 use Rattle.iris_table.proofs.Looks.{put_at, without_at, look_below}
 use Rattle.iris_table.specs.Changes.{freed, retrashed, count_written, reclaimed, stepped}
-use Rattle.iris_table.proofs.Agree.{met_same, look_dir, look_none, nothing_below, makes, look_resolved, kind_of}
+use Rattle.iris_table.proofs.Agree.{met_same, look_dir, look_none, nothing_below, makes, look_resolved, kind_found}
 
 choose : (o : Option PlainError) (a t : Table) (p : Plain) → (o ≡ None → view a ≡ p) → view (cond (is_none o) a t) ≡ cond (is_none o) p (view t)
 choose None a t p h = h refl
@@ -170,7 +170,7 @@ resizes (AFile k) long same much full e = refl
 resizes Nothing long same much full e = absurd (cc)
 resizes AFileBefore long same much full e = absurd (cc)
 
-bytes_there : (found : Found) → is_file (seen_row found) ≡ true → (row : Taken) × (b : List ℕ) × (found ≡ Here row) × (kind_of found ≡ Some (Bytes b))
+bytes_there : (found : Found) → is_file (seen_row found) ≡ true → (row : Taken) × (b : List ℕ) × (found ≡ Here row) × (kind_found found ≡ Some (Bytes b))
 bytes_there (Here row) e = by row.file e where
   by : (file : Option File) → is_file (seen_file file) ≡ true → (r : Taken) × (b : List ℕ) × (Here row ≡ Here r) × (Some (kind_of file) ≡ Some (Bytes b))
   by None e = absurd (cc)

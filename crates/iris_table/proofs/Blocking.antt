@@ -40,9 +40,9 @@ pub blocks_begin : (key : List ℕ) (file : ℕ) (f : File) (s : Records) → Ad
 blocks_begin key file f s = λ n. ap (λ o. either (option_map (spelled key n) o) (looked n s)) (sym (no_first n file f))
 
 same_place : (f : Kept) (p : ℕ) (place : Place) → slice_get f.places p ≡ Some place → block_of_place p (file_of f) ≡ kept_block place
-same_place f p place e = ap block_of_place e where
-  block_of_place : Option Place → Option Unfolded
-  block_of_place o = cond (place_version o == 0) None (Some (Stored (place_version o) (block_of o)))
+same_place f p place e = ap stored_place e where
+  stored_place : Option Place → Option Unfolded
+  stored_place o = cond (place_version o == 0) None (Some (Stored (place_version o) (block_of o)))
 
 one_more : (n : Name) (file : ℕ) (f : Kept) (p : ℕ) (place : Place) → slice_get f.places p ≡ Some place
     → either (at_place n file p place) (blocks_below p n file (file_of f)) ≡ blocks_below (p + 1) n file (file_of f)
@@ -66,9 +66,9 @@ blocks_next key file f p place a b c e h k =
     adds_same key _ (λ n. blocks_below (p + 1) n file (file_of f)) a c (λ n. one_more n file f p place e) (adds_twice key (λ n. blocks_below p n file (file_of f)) (λ n. at_place n file p place) a b c h k)
 
 past_end : (f : Kept) (q : ℕ) → slice_get f.places q ≡ None → block_of_place q (file_of f) ≡ None
-past_end f q e = ap block_of_place e where
-  block_of_place : Option Place → Option Unfolded
-  block_of_place o = cond (place_version o == 0) None (Some (Stored (place_version o) (block_of o)))
+past_end f q e = ap stored_place e where
+  stored_place : Option Place → Option Unfolded
+  stored_place o = cond (place_version o == 0) None (Some (Stored (place_version o) (block_of o)))
 
 pub blocks_all : (n : Name) (file : ℕ) (f : Kept) → blocks_below (length f.places) n file (file_of f) ≡ in_blocks n file (file_of f)
 blocks_all (Entry i) file f = refl

@@ -15,7 +15,7 @@ use Rattle.iris_node.specs.Spelling.{spelling}
 use Rattle.iris_node.specs.Unfolded.{Unfolded, Absent, Folder, Leaf, Even, Split, Stored, hash, link_to, node_of, blocks, spelled_node as node_spelled}
 use Rattle.iris_node.specs.declared.node.Link.{Link}
 use Rattle.iris_node.specs.declared.node.Node.{Node}
-use Rattle.iris_node.specs.declared.node.Node.TheVariants.{Entry as Entry-node}
+use Rattle.iris_node.specs.declared.node.Node.TheVariants.{Entry-node}
 use Rattle.iris_shape.specs.Local.{either}
 use Rattle.iris_shape.specs.declared.rows.Row.{Row}
 use Rattle.iris_table.specs.declared.records.Told.{Told}
@@ -119,16 +119,16 @@ top_shape (Entry i) id own (Some f) less more e = ap (λ z. cond (i.0 == z) (Som
 top_shape (Part f l i) id own file less more e = refl
 top_shape (Block f p) id own file less more e = refl
 
-spelled_node : (key : List ℕ) (n : Name) (own : Own) (file : Option File) (less more : Unfolded) (node : Node) → node_of (entry_above own file less more) ≡ Some node → spelled key n (entry_above own file less more) ≡ spelling node
-spelled_node key n own None less more node e = ap node_spelled e
-spelled_node key n own (Some f) less more node e = ap node_spelled e
+entry_spelled_node : (key : List ℕ) (n : Name) (own : Own) (file : Option File) (less more : Unfolded) (node : Node) → node_of (entry_above own file less more) ≡ Some node → spelled key n (entry_above own file less more) ≡ spelling node
+entry_spelled_node key n own None less more node e = ap node_spelled e
+entry_spelled_node key n own (Some f) less more node e = ap node_spelled e
 
 -- its record
 pub top_put : (key : List ℕ) (own : Own) (file : Option File) (less more : Unfolded) (node : Node) (id : FileId) (a b : Records) → id.0 ≡ own.id
     → ((n : Name) → looked n b ≡ cond (same_name n (Entry id)) (Some (spelling node)) (looked n a)) → node_of (entry_above own file less more) ≡ Some node → Adds key (λ n. at_top n (entry_above own file less more)) a b
 top_put key own file less more node id a b e h g =
     adds_same key (λ n. cond (same_name n (Entry id)) (Some (entry_above own file less more)) None) (λ n. at_top n (entry_above own file less more)) a b (λ n. top_shape n id own file less more e)
-    (adds_one key (Entry id) (entry_above own file less more) (spelling node) a b h (λ n s. spelled_node key n own file less more node g))
+    (adds_one key (Entry id) (entry_above own file less more) (spelling node) a b h (λ n s. entry_spelled_node key n own file less more node g))
 
 either_cond : (c : Bool) (x : Unfolded) (a : Option Unfolded) → either (cond c (Some x) None) a ≡ cond c (Some x) a
 either_cond true x a = refl

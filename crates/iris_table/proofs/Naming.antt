@@ -12,7 +12,7 @@ use Rattle.iris_table.specs.Items.{grown, kept_file}
 use Rattle.iris_table.specs.Rows.{File, Rows, End, Taken, Here, find, resolved, followed, entered}
 use Rattle.iris_table.specs.View.{kind_below, into, bound, kind_of}
 use Rattle.iris_table.specs.Stops.{is_name_of}
-use Rattle.iris_table.proofs.Agree.{kind_of, look_resolved}
+use Rattle.iris_table.proofs.Agree.{kind_found, look_resolved}
 use Rattle.iris_table.proofs.Looks.{look_below}
 use Rattle.iris_table.proofs.Changing.{row_of, grown_deeper, grown_here}
 
@@ -74,14 +74,14 @@ some_bound (Some below) f = refl
 pub page_names : (names : List (List ℕ)) (root row : Taken) → resolved names root ≡ Here row → row.file ≡ None → (m : List ℕ) → is_name_of row.inside m ≡ has_name (λ q. kind_below q root) names m
 page_names names root row e d m = sym (ap is_some (look_below names (m ∷ []) root row e ∙ ap (λ f. into f (bound (find m row.inside) (λ below. kind_below [] below))) d) ∙ some_bound (find m row.inside) (λ below. kind_of below.file))
 
-past_file : (ns : List (List ℕ)) (root : Taken) (m : List ℕ) → is_directory_seen (seen_row (resolved ns root)) ≡ false → kind_of (resolved (ns ++ m ∷ []) root) ≡ None
+past_file : (ns : List (List ℕ)) (root : Taken) (m : List ℕ) → is_directory_seen (seen_row (resolved ns root)) ≡ false → kind_found (resolved (ns ++ m ∷ []) root) ≡ None
 past_file [] root m e = by root.file e where
-  by : (file : Option File) → is_directory_seen (seen_file file) ≡ false → kind_of (entered file (followed (find m root.inside) (λ below. Here below))) ≡ None
+  by : (file : Option File) → is_directory_seen (seen_file file) ≡ false → kind_found (entered file (followed (find m root.inside) (λ below. Here below))) ≡ None
   by None e = absurd (cc)
   by (Some f) e = refl
 past_file (n ∷ ns) root m e = by root.file (find n root.inside) e (λ below. past_file ns below m) where
-  by : (file : Option File) (o : Option Taken) → is_directory_seen (seen_row (entered file (followed o (λ below. resolved ns below)))) ≡ false → ((below : Taken) → is_directory_seen (seen_row (resolved ns below)) ≡ false → kind_of (resolved (ns ++ m ∷ []) below) ≡ None)
-      → kind_of (entered file (followed o (λ below. resolved (ns ++ m ∷ []) below))) ≡ None
+  by : (file : Option File) (o : Option Taken) → is_directory_seen (seen_row (entered file (followed o (λ below. resolved ns below)))) ≡ false → ((below : Taken) → is_directory_seen (seen_row (resolved ns below)) ≡ false → kind_found (resolved (ns ++ m ∷ []) below) ≡ None)
+      → kind_found (entered file (followed o (λ below. resolved (ns ++ m ∷ []) below))) ≡ None
   by (Some f) o e h = refl
   by None None e h = refl
   by None (Some below) e h = h below e

@@ -16,7 +16,7 @@ use Rattle.iris_table.proofs.Steadies.{Steady}
 use Rattle.iris_table.proofs.Held.{holding}
 use Rattle.iris_table.proofs.Emptied.{not_under_parent, under_self, parent_dir}
 use Rattle.iris_table.proofs.Agreeing.{places, moves, cleared_at, front, not_under, both_none}
-use Rattle.iris_table.proofs.Agree.{look_dir, look_none, look_resolved, kind_of}
+use Rattle.iris_table.proofs.Agree.{look_dir, look_none, look_resolved, kind_found}
 use Rattle.iris_table.proofs.Rising.{ordered_at, ordered_without, ordered_file_at, ordered_in, ordered_put_at, names_are}
 
 -- the names of an optional path keep the grammar
@@ -86,7 +86,7 @@ emptied_any : (t : Table) (n : List ℕ) (ns : List (List ℕ)) → Steady t →
 emptied_any t n ns s k d = by (met t (n ∷ ns)) refl where
   by : (f : Found) → met t (n ∷ ns) ≡ f → IsOrdered (emptied (n ∷ ns) t f).visible
   by (Here row) h =
-      let there : kind_below (n ∷ ns) (root_row t) ≡ Some (kind_of row.file) = look_resolved (n ∷ ns) (root_row t) ∙ ap kind_of h in
+      let there : kind_below (n ∷ ns) (root_row t) ≡ Some (kind_of row.file) = look_resolved (n ∷ ns) (root_row t) ∙ ap kind_found h in
       ordered_put_at (n ∷ ns) (record { id = t.next; file = Some empty_file; inside = End }) (holding (gone (n ∷ ns) t) (root_row t))
       (cleared_at (n ∷ ns) t (parent (n ∷ ns)) refl s.distinct ∙ ap (λ b. cond b None (kind_below (parent (n ∷ ns)) (root_row t))) (not_under_parent n ns) ∙ parent_dir n ns (root_row t) (kind_of row.file) there)
       (cleared_at (n ∷ ns) t (n ∷ ns) refl s.distinct ∙ ap (λ b. cond b None (kind_below (n ∷ ns) (root_row t))) (under_self (n ∷ ns)))

@@ -21,7 +21,7 @@ use Rattle.iris_table.specs.Rows.{File, Rows, End, Row, Table, Taken, Found, Her
 use Rattle.iris_table.specs.Sound.{IsDistinct}
 use Rattle.iris_table.specs.View.{kind_below, kind_of}
 use Rattle.iris_table.specs.Stops.{stop, file_met, met_in, root_of, run_row, after_run, table_over, IsFiled, IsFreed, IsGivenUp, is_given_up, IsRun, first_name, has_child, deeper}
-use Rattle.iris_table.proofs.Agree.{kind_of, look_resolved}
+use Rattle.iris_table.proofs.Agree.{kind_found, look_resolved}
 use Rattle.iris_table.proofs.Looks.{without_at}
 use Rattle.iris_table.proofs.Emptied.{parent_dir, not_under_parent}
 use Rattle.iris_table.proofs.Changing.{IsChange, by_without, by_file_at, row_of, grown_here, grown_deeper, grown_higher}
@@ -67,7 +67,7 @@ rows_filed items (n ∷ ns) place change i j h e g f new x =
     (subst P (sym here) (filed (0 + length ns) (last (n ∷ ns)) change i j (drop (place + 1) items) depth name f))).rows
 
 -- a directory that is there
-dir_kind : (f : Found) → is_directory_seen (seen_row f) ≡ true → kind_of f ≡ Some Dir
+dir_kind : (f : Found) → is_directory_seen (seen_row f) ≡ true → kind_found f ≡ Some Dir
 dir_kind (Here row) e = by row.file e where
   by : (file : Option File) → is_directory_seen (seen_file file) ≡ true → Some (kind_of file) ≡ Some Dir
   by None e = refl
@@ -75,7 +75,7 @@ dir_kind (Here row) e = by row.file e where
 dir_kind Missing e = absurd (cc)
 dir_kind Through e = absurd (cc)
 
-kind_dir : (f : Found) → kind_of f ≡ Some Dir → is_directory_seen (seen_row f) ≡ true
+kind_dir : (f : Found) → kind_found f ≡ Some Dir → is_directory_seen (seen_row f) ≡ true
 kind_dir (Here row) e = by row.file e where
   by : (file : Option File) → Some (kind_of file) ≡ Some Dir → is_directory_seen (seen_file file) ≡ true
   by None e = refl
@@ -125,7 +125,7 @@ pub gone_is : (t : Table) (names : List (List ℕ)) (f : Found) (row : Taken) (s
 gone_is t names f row s e h = let x : s ≡ removed names t (Here row) = h ∙ ap (removed names t) e in (ap (λ z. z.visible) x, ap (λ z. z.trash) x)
 
 -- the directory above what is there
-there_kind : (f : Found) → is_there (seen_row f) ≡ true → (k : Kind) × (kind_of f ≡ Some k)
+there_kind : (f : Found) → is_there (seen_row f) ≡ true → (k : Kind) × (kind_found f ≡ Some k)
 there_kind (Here row) e = (kind_of row.file, refl)
 there_kind Missing e = absurd (cc)
 there_kind Through e = absurd (cc)

@@ -24,7 +24,7 @@ use Rattle.iris_table.proofs.Content.{good-written}
 use Rattle.iris_table.proofs.Resize.{good-cut}
 use Rattle.iris_table.proofs.Agreeing.{places, moves, cleared_at, front, not_under, both_none, positive}
 use Rattle.iris_table.proofs.Kept.{distinct_put_at, distinct_at, distinct_without, distinct_file_at, good_put, good_without, good_at_path}
-use Rattle.iris_table.proofs.Agree.{good_at, look_dir, look_none, look_resolved, kind_of}
+use Rattle.iris_table.proofs.Agree.{good_at, look_dir, look_none, look_resolved, kind_found}
 use Rattle.iris_table.proofs.Keeping.{all_filed, good_file_at, all_put, all_without, all_at, all_here, all_map}
 use Rattle.iris_table.proofs.Onces.{times_put, times_at, times_file_at, times_gone}
 use Rattle.iris_table.proofs.Countings.{counted_more, counted_empty, counted_written, counted_cut, counted_freed, good_freed, good_empty}
@@ -274,7 +274,7 @@ emptied_any : (t : Table) (n : List ℕ) (ns : List (List ℕ)) → Steady t →
 emptied_any t n ns s a = by (met t (n ∷ ns)) refl where
   by : (f : Found) → met t (n ∷ ns) ≡ f → Steady (emptied (n ∷ ns) t f)
   by (Here row) h =
-      let there : kind_below (n ∷ ns) (root_row t) ≡ Some (kind_of row.file) = look_resolved (n ∷ ns) (root_row t) ∙ ap kind_of h in
+      let there : kind_below (n ∷ ns) (root_row t) ≡ Some (kind_of row.file) = look_resolved (n ∷ ns) (root_row t) ∙ ap kind_found h in
       emptied_sound t n ns row s h a
       (cleared_at (n ∷ ns) t (parent (n ∷ ns)) refl s.distinct ∙ ap (λ b. cond b None (kind_below (parent (n ∷ ns)) (root_row t))) (not_under_parent n ns) ∙ parent_dir n ns (root_row t) (kind_of row.file) there)
       (cleared_at (n ∷ ns) t (n ∷ ns) refl s.distinct ∙ ap (λ b. cond b None (kind_below (n ∷ ns) (root_row t))) (under_self (n ∷ ns)))

@@ -17,7 +17,7 @@ use Rattle.iris_table.specs.Items.{grown, kept_file, IsForest}
 use Rattle.iris_table.specs.Stops.{file_met, met_in}
 use Rattle.iris_table.specs.Served.{State, table_in, AreForests, IsWhole}
 use Rattle.iris_table.specs.Replies.{Told, is_left}
-use Rattle.iris_table.proofs.Agree.{look_resolved, kind_of}
+use Rattle.iris_table.proofs.Agree.{look_resolved, kind_found}
 use Rattle.iris_table.proofs.Agreeing.{places, verdict_same}
 use Rattle.iris_table.proofs.Keeping.{all_here}
 use Rattle.iris_table.proofs.Staying.{sound_kept}
@@ -56,7 +56,7 @@ bytes_met t names file e = ap bytes_of (look_resolved names (root_row t)) ∙ by
   some None e = absurd (cc)
   some (Some f) e = let k : f ≡ file = cc in ap content k
 
-  by : (found : Found) → file_met found ≡ Some file → bytes_of (kind_of found) ≡ content file
+  by : (found : Found) → file_met found ≡ Some file → bytes_of (kind_found found) ≡ content file
   by (Here row) e = some row.file e
   by Missing e = absurd (cc)
   by Through e = absurd (cc)
@@ -67,7 +67,7 @@ no_bytes_met t names e = ap bytes_of (look_resolved names (root_row t)) ∙ by (
   some None e = refl
   some (Some f) e = absurd (cc)
 
-  by : (found : Found) → file_met found ≡ None → bytes_of (kind_of found) ≡ []
+  by : (found : Found) → file_met found ≡ None → bytes_of (kind_found found) ≡ []
   by (Here row) e = some row.file e
   by Missing e = refl
   by Through e = refl

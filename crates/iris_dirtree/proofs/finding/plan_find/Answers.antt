@@ -4,7 +4,7 @@ use Rattle.std.specs.Option.{option_copied}
 use Rattle.iris_name.specs.declared.name.Name.TheVariants as name
 use Rattle.iris_node.specs.Fields.{EntryFields}
 use Rattle.iris_cache.specs.Drafted.{seen}
-use Rattle.iris_dirtree.specs.Found.{as_entry}
+use Rattle.iris_dirtree.specs.Found.{entry_of_node}
 use Rattle.iris_node.specs.Trees.{Shown}
 use Rattle.iris_dirtree.specs.Rows.{Row}
 use Rattle.iris_dirtree.specs.Ways.{along_name}
@@ -27,7 +27,7 @@ going c key old new rows pic = subst (λ at. Search key c.args.name.now old new 
 abbrev entry_of : After-stands_before → EntryFields
 entry_of c = record { id = c.entry.inside.id; name = c.entry.inside.name; left = c.entry.inside.left; right = c.entry.inside.right; body = c.entry.inside.body }
 
-met : (c : After-stands_before) → Some (entry_of c) ≡ as_entry (seen c.args.draft.now c.args.cache.now (name.Entry c.in-Some.link.id))
+met : (c : After-stands_before) → Some (entry_of c) ≡ entry_of_node (seen c.args.draft.now c.args.cache.now (name.Entry c.in-Some.link.id))
 met c = ap Some c.entry.view_is ∙ ap option_copied (sym c.in-Some-2.is) ∙ c.in_ok-entry.ensures.entry
 
 pub returns-in_default-clause-found : goal.returns-in_default-clause-found

@@ -9,7 +9,7 @@ use Rattle.iris_node.specs.Trees.{Shown}
 use Rattle.iris_shape.specs.Treap.{Treap}
 use Rattle.iris_cache.specs.Drafted.{seen}
 use Rattle.iris_dirtree.specs.Rows.{Row}
-use Rattle.iris_dirtree.specs.Found.{as_entry}
+use Rattle.iris_dirtree.specs.Found.{entry_of_node}
 use Rattle.iris_dirtree.specs.Piles.{Tables, Piling}
 use Rattle.iris_dirtree.proofs.Pilings.{piling_none, piling_long, piling_gone, piling_lacks, piling_left, piling_right, under_short}
 use Rattle.iris_dirtree.proofs.listing.pass.Goals as goal
@@ -25,7 +25,7 @@ going c old new all begin left tab s =
 abbrev entry_of : After-is_past → EntryFields
 entry_of c = c.in-Some-2.entry.now
 
-met : (c : After-is_past) → Some (entry_of c) ≡ as_entry (seen c.args.draft.now c.args.cache.now (name.Entry c.in-Some.here.id))
+met : (c : After-is_past) → Some (entry_of c) ≡ entry_of_node (seen c.args.draft.now c.args.cache.now (name.Entry c.in-Some.here.id))
 met c = ap option_copied (sym c.in-Some-2.is) ∙ c.in_ok-entry.ensures.entry
 
 pub returns-in_default-clause-passed : goal.returns-in_default-clause-passed

@@ -10,7 +10,7 @@ use Rattle.iris_shape.specs.Treap.{treap}
 use Rattle.iris_cache.specs.Drafted.{seen}
 use Rattle.iris_dirtree.specs.Needs.{Listed}
 use Rattle.iris_dirtree.specs.Rows.{Row, up}
-use Rattle.iris_dirtree.specs.Found.{as_entry}
+use Rattle.iris_dirtree.specs.Found.{entry_of_node}
 use Rattle.iris_dirtree.specs.Piles.{Piled}
 use Rattle.iris_dirtree.proofs.Listings.{Page, tables_of, page_top, page_end, page_full, page_gone, page_next, page_short}
 use Rattle.iris_dirtree.proofs.listing.plan_after.Goals as goal
@@ -55,7 +55,7 @@ loop-row-preserved c = λ key old new rows pic.
     let d = c.args.draft.now in
     let w = c.args.cache.now in
     let e : EntryFields = record { id = c.entry.inside.id; name = c.entry.inside.name; left = c.entry.inside.left; right = c.entry.inside.right; body = c.entry.inside.body } in
-    let at : Some e ≡ as_entry (seen d w (name.Entry c.in-Some.id)) = ap Some c.entry.view_is ∙ ap option_copied (sym c.in-Some-entry_of.is) ∙ c.entry_of.ensures in
+    let at : Some e ≡ entry_of_node (seen d w (name.Entry c.in-Some.id)) = ap Some c.entry.view_is ∙ ap option_copied (sym c.in-Some-entry_of.is) ∙ c.entry_of.ensures in
     let more : c.push.new.self ≡ c.loop-row.names ++ e.name ∷ [] = c.in_ok-push.ensures.ok ∙ ap (λ n. c.loop-row.names ++ n ∷ []) c.in_ok-copy.ensures in
     rw add-one (subst (λ names. Page key c.args.after.now c.args.most old new d w rows names c.pop.new.self.items e.right (suc c.loop-row._row)) (sym more)
     (page_next key c.args.after.now c.args.most c.args.dir d w old new rows pic c.loop-row.names c.loop-row.waiting.items c.pass.new.waiting.items c.pop.new.self.items c.loop-row.at c.loop-row._row c.in-Some.id e s

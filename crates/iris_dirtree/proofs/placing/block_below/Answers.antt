@@ -4,14 +4,14 @@ use Rattle.std.proofs.lemmas.Result.{err_from_is_err_and}
 use Rattle.iris_name.specs.declared.name.Name.TheVariants as name
 use Rattle.iris_cache.specs.Drafted.{seen}
 use Rattle.iris_dirtree.specs.Turns.{IsTurn}
-use Rattle.iris_dirtree.specs.Found.{as_entry}
+use Rattle.iris_dirtree.specs.Found.{entry_of_node}
 use Rattle.iris_dirtree.specs.declared.placing.Turn.TheVariants.{Under}
 use Rattle.iris_dirtree.proofs.Placings.{sunk_top, sunk_lacks, sunk_gone, sunk_long, sunk_own, sunk_end, sunk_down, below_lack}
 use Rattle.iris_dirtree.proofs.placing.block_below.Goals as goal
 use Rattle.iris_dirtree.proofs.placing.block_below.Goals.{In-Some}
 
 -- the entry there
-met : (c : In-Some) → Some c.in-Some.entry.now ≡ as_entry (seen c.args.draft.now c.args.cache.now (name.Entry c.loop-step.link.id))
+met : (c : In-Some) → Some c.in-Some.entry.now ≡ entry_of_node (seen c.args.draft.now c.args.cache.now (name.Entry c.loop-step.link.id))
 met c = ap option_copied (sym c.in-Some.is) ∙ c.in_ok-entry.ensures.entry
 
 pub loop-step-init : goal.loop-step-init
