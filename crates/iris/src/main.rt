@@ -40,12 +40,13 @@ const HELP: &str = "\
 iris FOLDER registers KEY    serves block registers over the records in FOLDER/blocks
 iris FOLDER plain KEY        serves a plain file system in memory, with no store
 
-KEY is the master key, 64 hexadecimal digits. The script comes on standard input: for
-registers lines `write PLACE HEX` and `read PLACE`, for plain lines of up to 16 clients,
-as `1 mkdir /docs` and `2 write /docs/a.txt 0 6869`. The replies go to standard output
-once all lines are served. The status is 0, or 1 where a reply is refused, 2 for bad
-words or a bad line, 3 where the script can't be read, 4 where the output can't be
-written, 7 where the script is too long or names a client above 16, 8 for want of memory.";
+KEY is the master key, 64 hexadecimal digits: use it for one session only, and where no other
+user of the machine can list its processes. The script comes on standard input: for registers
+lines `write PLACE HEX` and `read PLACE`, for plain lines of up to 16 clients, as `1 mkdir /docs`
+and `2 write /docs/a.txt 0 6869`. The replies go to standard output once all lines are served.
+The status is 0, or 1 if a reply is refused, 2 for bad words or a bad line, 3 if the script can't
+be read, 4 if the output can't be written, 7 if the script is too long or names a client above
+16, 8 if memory runs out.";
 
 const VERSION: &str = "iris 0.1.0";
 
