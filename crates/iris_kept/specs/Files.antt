@@ -47,7 +47,7 @@ files keys = record {
 abbrev pub files_after : Keys → Past → Table
 files_after keys past = table_of (files keys) past
 
--- D17's first point with D18: a sync is answered where no name is dirty
+-- which replies are right: a sync is answered where no name is dirty
 abbrev pub FileReplies : Keys → Past → Request → Reply → Type 0
 FileReplies keys past Sync reply = (reply ≡ Synced) × ((n : Name) → IsDirty (files keys) n past → ⊥)
 FileReplies keys past request reply = TableReplies keys.order (files_after keys past) request reply
