@@ -7,9 +7,9 @@ use Rattle.iris_name.specs.Hmac.{order_key}
 use Rattle.iris_script.specs.Script.{AllAsk, IsScriptFault as IsScriptFault, script_lines}
 use Rattle.iris_script.specs.declared.script.ScriptError.{ScriptError}
 use Rattle.iris_script.specs.declared.script.ScriptError.TheVariants as script
-use Rattle.iris_table.specs.Changes.{stepped}
+use Rattle.iris_rows.specs.Changes.{stepped}
 use Rattle.iris_table.specs.Replies.{TableReplies}
-use Rattle.iris_table.specs.Rows.{Table, empty_table}
+use Rattle.iris_rows.specs.Rows.{Table, empty_table}
 use Rattle.iris.specs.declared.reading.ReadError.{ReadError}
 use Rattle.iris.specs.declared.reading.ReadError.TheVariants as read
 use Rattle.iris.specs.Plain.{AreRight, ArePlain, Served, WasAsked, IsPlainEnd, halt_of_read, halt_of_script}

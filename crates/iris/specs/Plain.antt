@@ -7,9 +7,9 @@ use Rattle.iris_name.specs.Told.{extended}
 use Rattle.iris_script.specs.Script.{AllAsk, IsFirst, IsNoRequest, NamesFarClient, script_lines}
 use Rattle.iris_script.specs.declared.script.ScriptError.{ScriptError}
 use Rattle.iris_script.specs.declared.script.ScriptError.TheVariants as script
-use Rattle.iris_table.specs.Changes.{stepped}
+use Rattle.iris_rows.specs.Changes.{stepped}
 use Rattle.iris_table.specs.Replies.{TableReplies}
-use Rattle.iris_table.specs.Rows.{Table, empty_table}
+use Rattle.iris_rows.specs.Rows.{Table, empty_table}
 use Rattle.iris.specs.declared.plain.Halt.{Halt}
 use Rattle.iris.specs.declared.plain.Halt.TheVariants.{Stopped, FarClient}
 use Rattle.iris.specs.declared.reading.ReadError.{ReadError}

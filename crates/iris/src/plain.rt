@@ -4,7 +4,7 @@ ghost use Rattle.std.specs.Prelude.{◌≡◌, ◌≢◌, ◌⊎◌, ◌↔◌, 
 ghost use Rattle.iris_name.specs.Hmac.{order_key};
 ghost use Rattle.iris_name.specs.declared.request.Request.{Request as SpecRequest};
 ghost use Rattle.iris_script.specs.Script.{AllAsk, IsFirst, IsNoRequest, NamesFarClient, script_lines};
-ghost use Rattle.iris_table.specs.Rows.{empty_table};
+ghost use Rattle.iris_rows.specs.Rows.{empty_table};
 ghost use Rattle.iris.specs.Commands.{IsStatus};
 ghost use Rattle.iris.specs.Notes.{printed};
 ghost use Rattle.iris.specs.Outside.{IsFault};

@@ -13,13 +13,14 @@ use Rattle.iris_history.specs.Kept.{Kept, table_of}
 use Rattle.iris_history.specs.Legal.{Rules, IsLegal, IsBad}
 use Rattle.iris_history.specs.Status.{IsDirty}
 use Rattle.iris_node.specs.Unfolded.{Unfolded, Absent, Folder, Leaf, Even, Split, Stored}
-use Rattle.iris_table.specs.Ages.{StandsInTable}
-use Rattle.iris_table.specs.Challenges.{table_walk}
-use Rattle.iris_table.specs.Changes.{stepped, count_written}
-use Rattle.iris_table.specs.Records.{spelled}
+use Rattle.iris_rows.specs.Standing.{StandsInTable}
+use Rattle.iris_records.specs.Challenges.{table_walk}
+use Rattle.iris_rows.specs.Changes.{stepped}
+use Rattle.iris_rows.specs.FileChanges.{count_written}
+use Rattle.iris_records.specs.Records.{spelled}
 use Rattle.iris_table.specs.Replies.{TableReplies}
-use Rattle.iris_table.specs.Rows.{File, Table, empty_table}
-use Rattle.iris_table.specs.Shown.{shown}
+use Rattle.iris_rows.specs.Rows.{File, Table, empty_table}
+use Rattle.iris_records.specs.Shown.{shown}
 use Rattle.iris_kept.specs.Reach.{Reaches}
 
 -- the version of a block, 0 of all else

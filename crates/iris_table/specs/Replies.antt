@@ -5,11 +5,11 @@ use Rattle.iris_name.specs.declared.request.Request.TheVariants.{Mkdir, Create, 
 use Rattle.iris_name.specs.declared.request.Reply.{Reply}
 use Rattle.iris_name.specs.declared.request.Reply.TheVariants.{Synced, Digest, Reclaimed}
 use Rattle.iris_plain.specs.Steps.{PlainReplies, Judged, Accepted}
-use Rattle.iris_table.specs.Rows.{Rows, End, Row, Table}
-use Rattle.iris_table.specs.Challenges.{table_walk, IsProbed}
-use Rattle.iris_table.specs.Changes.{table_verdict, stepped}
-use Rattle.iris_table.specs.Records.{root_hash}
-use Rattle.iris_table.specs.View.{view}
+use Rattle.iris_rows.specs.Rows.{Rows, End, Row, Table}
+use Rattle.iris_records.specs.Challenges.{table_walk, IsProbed}
+use Rattle.iris_rows.specs.Changes.{table_verdict, stepped}
+use Rattle.iris_records.specs.Records.{root_hash}
+use Rattle.iris_rows.specs.View.{view}
 
 -- some row is there
 abbrev pub is_left : Rows → Bool

@@ -1,11 +1,10 @@
 -- What the program that serves the table holds.
 use Rattle.std.specs.Prelude.{ℕ, List}
 use Rattle.iris_mac.specs.declared.keys.Keys.{Keys}
-use Rattle.iris_table.specs.declared.item.Item.{Item}
-use Rattle.iris_table.specs.Rows.{Table}
-use Rattle.iris_table.specs.Sound.{IsSound}
-use Rattle.iris_table.specs.Items.{IsForest}
-use Rattle.iris_table.specs.Stops.{table_over}
+use Rattle.iris_rows.specs.declared.item.Item.{Item}
+use Rattle.iris_rows.specs.Rows.{Table}
+use Rattle.iris_rows.specs.Sound.{IsSound}
+use Rattle.iris_rows.specs.Items.{IsForest, table_over}
 
 -- the rows below the visible root and in the trash, the next id and the age
 pub record State : Type 0 where

@@ -2,18 +2,14 @@
 use Rattle.std.specs.Prelude.{is_some, Bool, true, false, ◌==◌, ◌≡◌, ◌≤◌, ◌<◌, ◌^◌, ℕ, suc, ◌+◌, ◌-◌, List, [], ◌∷◌, drop, Option, Some, None, nat_lt, if◌then◌else◌}
 use Rattle.std.specs.Str.{bytes_eq}
 use Rattle.iris_plain.specs.Routes.{is_name_before}
-use Rattle.iris_table.specs.declared.item.Item.{Item}
+use Rattle.iris_rows.specs.declared.item.Item.{Item}
 use Rattle.iris_table.specs.declared.rows.Stop.{Stop}
 use Rattle.iris_table.specs.declared.rows.Stop.TheVariants.{Standing, Absent, Barred}
-use Rattle.iris_table.specs.Places.{Kept}
-use Rattle.iris_table.specs.Items.{grown, kept_file, IsForestTo}
-use Rattle.iris_table.specs.Rows.{File, Rows, End, Table, Taken, Found, Here, Missing, Through, resolved, on_file, find}
-use Rattle.iris_table.specs.Changes.{count_written, freed}
+use Rattle.iris_rows.specs.Places.{Kept}
+use Rattle.iris_rows.specs.Items.{grown, kept_file, IsForestTo}
+use Rattle.iris_rows.specs.Rows.{File, Rows, End, Taken, Found, Here, Missing, Through, resolved, on_file, find}
+use Rattle.iris_rows.specs.FileChanges.{count_written, freed}
 use Rattle.iris_plain.specs.Checks.{blocks_of}
-
--- the table of these items
-abbrev pub table_over : List Item → List Item → ℕ → ℕ → Table
-table_over visible trash next age = record { visible = grown 0 visible; trash = grown 0 trash; hand = End; next = next; age = age }
 
 -- the root of these items
 abbrev pub root_of : List Item → Taken

@@ -1,19 +1,13 @@
-//! The table of rows that lies beneath the plain file system, as a slow program, and the law that joins the two.
+//! The table of rows that lies beneath the plain file system, as a slow program.
 #![tactic(auto)]
 
-pub mod challenge;
-pub mod digits;
-pub mod file;
-pub mod item;
-pub mod law;
 pub mod moving;
-pub mod records;
 pub mod rows;
-pub mod shelf;
 pub mod state;
 pub mod step;
 
-pub use records::{records_of, root_of};
+pub use iris_records::{records_of, root_of};
+pub use iris_rows::law::{steps_stay_sound, views_agree};
 pub use step::Table;
 
 #[cfg(test)]

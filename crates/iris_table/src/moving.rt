@@ -3,18 +3,19 @@
 ghost use Rattle.std.specs.Prelude.{◌≡◌, ◌≤◌, ◌<◌, ◌+◌, ◌-◌, ◌^◌, ◌++◌, ℕ, List, true, false, length, take, drop, map, is_some, IfOk, OnOk, OnErr, Some, vec_len, vec_capacity};
 ghost use Rattle.iris_plain.specs.Routes.{parent, last, is_front};
 ghost use Rattle.iris_plain.specs.Checks.{is_directory_seen, is_file, is_there};
-ghost use Rattle.iris_table.specs.Rows.{File, End, with_row, at, file_at, empty_file};
-ghost use Rattle.iris_table.specs.Changes.{file_written, cut, removed, row_moved, emptied, reclaimed, thrown, seen_row};
-ghost use Rattle.iris_table.specs.Items.{grown, kept_file, IsForest};
-ghost use Rattle.iris_table.specs.Places.{Kept, file_of};
-ghost use Rattle.iris_table.specs.Sound.{IsDistinct};
-ghost use Rattle.iris_table.specs.Stops.{met_in, file_met, table_over, run_length, relabelled, after_run, first_name, first_renamed, IsRun, run_row, AreWithin, IsFiled, IsFreed, IsGivenUp, has_child};
+ghost use Rattle.iris_rows.specs.Rows.{File, End, with_row, at, file_at, empty_file};
+ghost use Rattle.iris_rows.specs.FileChanges.{file_written, cut};
+ghost use Rattle.iris_rows.specs.Changes.{removed, row_moved, emptied, reclaimed, thrown, seen_row};
+ghost use Rattle.iris_rows.specs.Items.{grown, kept_file, IsForest, table_over};
+ghost use Rattle.iris_rows.specs.Places.{Kept, file_of};
+ghost use Rattle.iris_rows.specs.Sound.{IsDistinct};
+ghost use Rattle.iris_table.specs.Stops.{met_in, file_met, run_length, relabelled, after_run, first_name, first_renamed, IsRun, run_row, AreWithin, IsFiled, IsFreed, IsGivenUp, has_child};
 
-use crate::digits::trash_name;
-use crate::file::FileRow;
-use crate::item::Item;
 use crate::rows::{Stop, begin, resolve, room, run_len};
 use iris_name::{FileId, NoMemory, Text};
+use iris_rows::digits::trash_name;
+use iris_rows::file::FileRow;
+use iris_rows::item::Item;
 use std::alloc::Global;
 
 // Takes so many rows out, from a place on.

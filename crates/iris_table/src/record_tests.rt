@@ -1,9 +1,9 @@
 //! Records and roots computed apart.
 
 use crate::Table;
-use crate::records::{records_of, root_of};
 use iris_mac::Keys;
 use iris_name::{Bytes, FileId, Name, Reply, Request, Text};
+use iris_records::{records_of, root_of};
 use std::alloc::Global;
 use std::test::Fail;
 

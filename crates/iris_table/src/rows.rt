@@ -2,18 +2,18 @@
 
 ghost use Rattle.std.specs.Prelude.{◌≡◌, ◌≤◌, ◌<◌, ◌+◌, length, drop, MatchOption, IfOk, None, Some};
 ghost use Rattle.iris_table.specs.Stops.{root_of, met_in, file_met, stop, deeper, run_length, room, first_inside, is_name_of, IsStopWithin};
-ghost use Rattle.iris_table.specs.View.{kind_below};
+ghost use Rattle.iris_rows.specs.View.{kind_below};
 ghost use Rattle.iris_plain.specs.Pages.{NoneLater, IsNext, IsPage};
 ghost use Rattle.iris_plain.specs.Steps.{has_name};
-ghost use Rattle.iris_table.specs.Places.{file_of};
-ghost use Rattle.iris_table.specs.Changes.{seen_row, seen_file};
-ghost use Rattle.iris_table.specs.Items.{grown, kept_file};
+ghost use Rattle.iris_rows.specs.Places.{file_of};
+ghost use Rattle.iris_rows.specs.Changes.{seen_row, seen_file};
+ghost use Rattle.iris_rows.specs.Items.{grown, kept_file};
 
-use crate::file::FileRow;
-use crate::item::Item;
 use iris_name::{NoMemory, Text, Texts};
 use iris_plain::Seen;
 use iris_plain::files::{PAGE_NAMES, is_before, is_name, lesser};
+use iris_rows::file::FileRow;
+use iris_rows::item::Item;
 use std::alloc::Global;
 
 /// Where resolving a path below the root ends among items.

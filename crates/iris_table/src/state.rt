@@ -5,19 +5,15 @@ ghost use Rattle.iris_name.specs.Paths.{names_of};
 ghost use Rattle.iris_name.specs.declared.request.Request.TheVariants.{Mkdir, Write, Read, Resize, Stat, List as ListNames, Rename, Remove, Reclaim};
 ghost use Rattle.iris_name.specs.declared.request.Reply.TheVariants.{Reclaimed};
 ghost use Rattle.iris_plain.specs.Checks.{is_full, no_place};
-ghost use Rattle.iris_table.specs.Rows.{empty_table};
-ghost use Rattle.iris_table.specs.Changes.{made, changed_by_names, seen_in, stepped, table_verdict};
-ghost use Rattle.iris_table.specs.Challenges.{table_walk, IsProbed};
-ghost use Rattle.iris_table.specs.Items.{kept_file};
+ghost use Rattle.iris_rows.specs.Rows.{empty_table};
+ghost use Rattle.iris_rows.specs.Changes.{made, changed_by_names, seen_in, stepped, table_verdict};
+ghost use Rattle.iris_records.specs.Challenges.{table_walk, IsProbed};
+ghost use Rattle.iris_rows.specs.Items.{kept_file};
 ghost use Rattle.iris_table.specs.Served.{State, table_in, AreForests, IsWhole};
-ghost use Rattle.iris_table.specs.Records.{AreLive, root_hash};
+ghost use Rattle.iris_records.specs.Records.{AreLive, root_hash};
 ghost use Rattle.iris_table.specs.Replies.{Told, is_left};
 
-use crate::challenge::probe;
-use crate::file::FileRow;
-use crate::item::Item;
 use crate::moving::{empty, insert, reclaim, remove, rename, resize_at, write_at};
-use crate::records::{records_of, root_of};
 use crate::rows::{file_at, page, seen};
 use iris_mac::Keys;
 use iris_name::{Bytes, FileId, Hash32, Name, NoMemory, PlainError, Reply, Text};
@@ -28,6 +24,9 @@ use iris_plain::checks::{
 };
 use iris_plain::files::is_below;
 use iris_plain::step::{above, read_path};
+use iris_records::{probe, records_of, root_of};
+use iris_rows::file::FileRow;
+use iris_rows::item::Item;
 use std::alloc::Global;
 use std::marker::Model;
 

@@ -1,16 +1,16 @@
 //! The step of the table.
 
 ghost use Rattle.std.specs.Prelude.{◌≡◌, ℕ, List, OnOk, OnErr, IfOk};
-ghost use Rattle.iris_table.specs.Rows.{empty_table};
-ghost use Rattle.iris_table.specs.Changes.{stepped};
+ghost use Rattle.iris_rows.specs.Rows.{empty_table};
+ghost use Rattle.iris_rows.specs.Changes.{stepped};
 ghost use Rattle.iris_table.specs.Served.{served_table, table_in, AreForests, IsWhole};
-ghost use Rattle.iris_table.specs.Records.{AreLive, root_hash};
+ghost use Rattle.iris_records.specs.Records.{AreLive, root_hash};
 ghost use Rattle.iris_table.specs.Replies.{TableReplies};
 
-use crate::file::FileRow;
 use crate::state::State;
 use iris_mac::Keys;
 use iris_name::{Bytes, Hash32, Name, NoMemory, Reply, Request};
+use iris_rows::file::FileRow;
 use std::alloc::Global;
 use std::marker::Model;
 

@@ -3,10 +3,10 @@
 ghost use Rattle.std.specs.Prelude.{◌<◌};
 
 use crate::Table;
-use crate::file::FileRow;
 use iris_mac::Keys;
 use iris_name::{Bytes, Reply, Request, Text};
 use iris_plain::Plain;
+use iris_rows::file::FileRow;
 use std::alloc::Global;
 use std::process::Abort;
 use std::test::Fail;

@@ -1,7 +1,7 @@
 use Rattle.std.proofs.Common.{◌∙◌, ap, subst, sym, take}
 use Rattle.std.proofs.lemmas.Result.{err_from_is_err_and}
 use Rattle.iris_name.specs.Told.{extended}
-use Rattle.iris_table.specs.Rows.{empty_table}
+use Rattle.iris_rows.specs.Rows.{empty_table}
 use Rattle.iris.specs.Plain.{AreRight, printed_to}
 use Rattle.iris.proofs.Plains.{script_end, served}
 use Rattle.iris.proofs.plain.run.Goals as goal

@@ -1,6 +1,6 @@
 use Rattle.std.proofs.Common.{◌≡◌, ◌++◌, ℕ, List, drop}
 use Rattle.iris_name.specs.declared.request.Reply.{Reply}
-use Rattle.iris_table.specs.Rows.{empty_table}
+use Rattle.iris_rows.specs.Rows.{empty_table}
 use Rattle.iris_table.specs.Served.{served_table}
 use Rattle.iris.specs.Plain.{AreRight}
 use Rattle.iris.proofs.plain.serve_calls.Given as goal

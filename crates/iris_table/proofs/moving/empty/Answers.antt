@@ -1,5 +1,5 @@
 use Rattle.iris_plain.specs.Routes.{parent}
-use Rattle.iris_table.proofs.Removing.{gone_ok, emptied_ok, dir_stays, not_under, parent_there}
+use Rattle.iris_table.proofs.RowTakenOut.{gone_ok, emptied_ok, dir_stays, not_under, parent_there}
 use Rattle.iris_table.proofs.moving.empty.Goals as goal
 
 pub put_at-requires-clause-parent : goal.put_at-requires-clause-parent

@@ -1,6 +1,6 @@
 use Rattle.std.proofs.Common.{◌-◌, length, refl, ◌∙◌, ap, ◌++◌, ◌∷◌, []}
-use Rattle.iris_table.specs.declared.item.Item.{Item}
-use Rattle.iris_table.proofs.Opening.{leaf_run}
+use Rattle.iris_rows.specs.declared.item.Item.{Item}
+use Rattle.iris_table.proofs.DirectoryRows.{leaf_run}
 use Rattle.iris_table.proofs.moving.leaf.Goals as goal
 
 pub returns-clause-run : goal.returns-clause-run

@@ -1,9 +1,9 @@
 use Rattle.std.proofs.Common.{arith, ◌≡◌, ◌∙◌, ◌++◌, sym, ap, subst, List, length, take, drop, map}
 use Rattle.std.proofs.lemmas.List.{length-map}
-use Rattle.iris_table.specs.declared.item.Item.{Item}
-use Rattle.iris_table.specs.Items.{IsForest}
+use Rattle.iris_rows.specs.declared.item.Item.{Item}
+use Rattle.iris_rows.specs.Items.{IsForest}
 use Rattle.iris_table.specs.Stops.{run_length, relabelled, first_renamed, AreWithin, IsRun, run_row}
-use Rattle.iris_table.proofs.Lifting.{written_back, renamed_length, depths_fit, is_run, same_row, left_is, left_forest}
+use Rattle.iris_table.proofs.RunAtDepth.{written_back, renamed_length, depths_fit, is_run, same_row, left_is, left_forest}
 use Rattle.iris_table.proofs.moving.lift.Goals as goal
 
 pub relabel-requires-clause-depths : goal.relabel-requires-clause-depths

@@ -1,8 +1,8 @@
 use Rattle.std.proofs.Common.{sym, ◌∙◌, ◌+◌, ◌-◌, length, take, drop, ap, subst, List}
-use Rattle.iris_table.specs.declared.item.Item.{Item}
-use Rattle.iris_table.specs.Items.{grown, IsForest}
+use Rattle.iris_rows.specs.declared.item.Item.{Item}
+use Rattle.iris_rows.specs.Items.{grown, IsForest}
 use Rattle.iris_table.specs.Stops.{stop, room, first_inside}
-use Rattle.iris_table.proofs.Opening.{opened_at, place_at, put_rows, put_forest}
+use Rattle.iris_table.proofs.DirectoryRows.{opened_at, place_at, put_rows, put_forest}
 use Rattle.iris_table.proofs.moving.put_at.Goals as goal
 
 pub returns-clause-rows : goal.returns-clause-rows

@@ -1,8 +1,8 @@
 use Rattle.std.proofs.Common.{◌≡◌, ◌∙◌, ◌++◌, ap, sym, subst, take, drop, List}
-use Rattle.iris_table.specs.declared.item.Item.{Item}
-use Rattle.iris_table.specs.Items.{grown, IsForest}
+use Rattle.iris_rows.specs.declared.item.Item.{Item}
+use Rattle.iris_rows.specs.Items.{grown, IsForest}
 use Rattle.iris_table.specs.Stops.{room, first_name}
-use Rattle.iris_table.proofs.Opening.{with_run, forest_with_run, trash_place}
+use Rattle.iris_table.proofs.DirectoryRows.{with_run, forest_with_run, trash_place}
 use Rattle.iris_table.proofs.moving.put_in_trash.Goals as goal
 
 pub returns-clause-rows : goal.returns-clause-rows

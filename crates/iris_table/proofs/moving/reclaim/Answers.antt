@@ -1,6 +1,6 @@
 use Rattle.std.proofs.Common.{sym, ◌∙◌, ap}
 use Rattle.iris_table.specs.Stops.{has_child}
-use Rattle.iris_table.proofs.Removing.{ok_one, reclaims_child}
+use Rattle.iris_table.proofs.RowTakenOut.{ok_one, reclaims_child}
 use Rattle.iris_table.proofs.moving.reclaim.Goals as goal
 
 pub returns-then-has_child-clause-ok : goal.returns-then-has_child-clause-ok

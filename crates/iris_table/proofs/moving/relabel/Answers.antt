@@ -1,5 +1,5 @@
 use Rattle.std.proofs.Common.{arith}
-use Rattle.iris_table.proofs.Stepwise.{relabel_within, relabel_more}
+use Rattle.iris_table.proofs.ItemsInTurn.{relabel_within, relabel_more}
 use Rattle.iris_table.proofs.moving.relabel.Goals as goal
 
 pub overflow_sub-run : goal.overflow_sub-run

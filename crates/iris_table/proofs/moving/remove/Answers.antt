@@ -1,6 +1,6 @@
 use Rattle.std.proofs.Common.{◌∙◌, ap}
 use Rattle.iris_table.specs.Stops.{stop}
-use Rattle.iris_table.proofs.Removing.{ok_both, removed_ok, must_stand}
+use Rattle.iris_table.proofs.RowTakenOut.{ok_both, removed_ok, must_stand}
 use Rattle.iris_table.proofs.moving.remove.Goals as goal
 
 pub returns-in-Standing-clause-ok : goal.returns-in-Standing-clause-ok

@@ -1,8 +1,8 @@
 use Rattle.std.proofs.Common.{◌∙◌, ◌-◌, ap, subst, length, ℕ, List}
 use Rattle.iris_plain.specs.Routes.{parent}
 use Rattle.iris_table.specs.Stops.{stop, IsRun}
-use Rattle.iris_table.proofs.Opening.{last_is}
-use Rattle.iris_table.proofs.Removing.{left_gone, moved_ok, must_stand, dir_stays, front_parent}
+use Rattle.iris_table.proofs.DirectoryRows.{last_is}
+use Rattle.iris_table.proofs.RowTakenOut.{left_gone, moved_ok, must_stand, dir_stays, front_parent}
 use Rattle.iris_table.proofs.moving.rename.Goals as goal
 
 pub put_at-requires-clause-parent : goal.put_at-requires-clause-parent

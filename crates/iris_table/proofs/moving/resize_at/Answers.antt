@@ -1,7 +1,8 @@
 use Rattle.std.proofs.Common.{◌^◌}
-use Rattle.iris_table.specs.Changes.{cut, seen_row}
+use Rattle.iris_rows.specs.FileChanges.{cut}
+use Rattle.iris_rows.specs.Changes.{seen_row}
 use Rattle.iris_table.specs.Stops.{met_in}
-use Rattle.iris_table.proofs.Removing.{ok_one, filed_ok, counter_ok, forest_filed, must_stand, file_there}
+use Rattle.iris_table.proofs.RowTakenOut.{ok_one, filed_ok, counter_ok, forest_filed, must_stand, file_there}
 use Rattle.iris_table.proofs.moving.resize_at.Goals as goal
 
 pub resize_item-requires-clause-counter : goal.resize_item-requires-clause-counter

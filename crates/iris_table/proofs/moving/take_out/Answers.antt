@@ -1,5 +1,5 @@
 use Rattle.std.proofs.Common.{◌≡◌, ◌+◌, ◌-◌, ◌++◌, take, drop, arith, ◌∙◌, ap}
-use Rattle.iris_table.proofs.Rotations.{run_is, rest_is}
+use Rattle.iris_table.proofs.ListRotation.{run_is, rest_is}
 use Rattle.iris_table.proofs.moving.take_out.Goals as goal
 
 pub returns-clause-taken : goal.returns-clause-taken

@@ -1,8 +1,8 @@
 use Rattle.std.proofs.Common.{◌∙◌, ap, arith, drop}
-use Rattle.iris_table.specs.Changes.{trash_name}
-use Rattle.iris_table.specs.Items.{grown}
+use Rattle.iris_rows.specs.Changes.{trash_name}
+use Rattle.iris_rows.specs.Items.{grown}
 use Rattle.iris_table.specs.Stops.{run_row}
-use Rattle.iris_table.proofs.Removing.{thrown_is, id_at}
+use Rattle.iris_table.proofs.RowTakenOut.{thrown_is, id_at}
 use Rattle.iris_table.proofs.moving.throw.Goals as goal
 
 pub returns-clause-trash : goal.returns-clause-trash

@@ -1,8 +1,8 @@
 use Rattle.std.proofs.Common.{◌∙◌, ◌++◌, ap, take, drop}
-use Rattle.iris_table.specs.Changes.{trash_name}
-use Rattle.iris_table.specs.Items.{grown}
+use Rattle.iris_rows.specs.Changes.{trash_name}
+use Rattle.iris_rows.specs.Items.{grown}
 use Rattle.iris_table.specs.Stops.{run_row, after_run}
-use Rattle.iris_table.proofs.Removing.{thrown_is, id_at, child_within}
+use Rattle.iris_table.proofs.RowTakenOut.{thrown_is, id_at, child_within}
 use Rattle.iris_table.proofs.moving.throw_first.Goals as goal
 
 pub returns-clause-ok : goal.returns-clause-ok

@@ -1,4 +1,4 @@
-use Rattle.iris_table.proofs.Staying.{sound_empty}
+use Rattle.iris_rows.proofs.SoundStep.{sound_empty}
 use Rattle.iris_table.proofs.record_tests.meets_the_fresh_records.Goals as goal
 
 pub records_of-requires-clause-sound : goal.records_of-requires-clause-sound

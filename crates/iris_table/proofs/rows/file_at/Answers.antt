@@ -1,6 +1,6 @@
 use Rattle.std.proofs.Common.{sym, ◌∙◌, ap}
 use Rattle.iris_table.specs.Stops.{file_met}
-use Rattle.iris_table.proofs.Meeting.{some_names, met_standing, file_lent, no_file_met}
+use Rattle.iris_table.proofs.MetRow.{some_names, met_standing, file_lent, no_file_met}
 use Rattle.iris_table.proofs.rows.file_at.Goals as goal
 
 pub returns-in-Standing : goal.returns-in-Standing

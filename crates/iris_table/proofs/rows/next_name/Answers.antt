@@ -1,9 +1,9 @@
 use Rattle.std.proofs.Common.{◌≡◌, ◌∙◌, sym, ap, subst, arith, ℕ, ◌+◌, List, ◌∷◌, drop, Option, Bor, ◌<◌, length, refl, slice_index_or}
 use Rattle.std.proofs.lemmas.List.{drop_more, drop_all}
-use Rattle.iris_table.specs.declared.item.Item.{Item}
-use Rattle.iris_table.specs.Items.{grown}
-use Rattle.iris_table.proofs.Changing.{grown_higher}
-use Rattle.iris_table.proofs.Naming.{IsBest, best_none, best_ends, best_deeper, best_here}
+use Rattle.iris_rows.specs.declared.item.Item.{Item}
+use Rattle.iris_rows.specs.Items.{grown}
+use Rattle.iris_rows.proofs.GrownRows.{grown_higher}
+use Rattle.iris_table.proofs.PageOfNames.{IsBest, best_none, best_ends, best_deeper, best_here}
 use Rattle.iris_table.proofs.rows.next_name.Goals as goal
 use Rattle.iris_table.proofs.rows.next_name.Goals.{then-item-depth-2, else-item-depth-2}
 

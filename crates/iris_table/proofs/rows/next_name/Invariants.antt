@@ -1,5 +1,5 @@
 use Rattle.std.proofs.Common.{drop}
-use Rattle.iris_table.proofs.Naming.{IsBest}
+use Rattle.iris_table.proofs.PageOfNames.{IsBest}
 use Rattle.iris_table.proofs.rows.next_name.Given as goal
 
 abbrev pub invariant-loop-item : goal.invariant-loop-item

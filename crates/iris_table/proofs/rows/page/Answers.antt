@@ -1,10 +1,10 @@
 use Rattle.std.proofs.Common.{sym, subst, List, ℕ}
 use Rattle.iris_plain.specs.Pages.{IsPage}
 use Rattle.iris_plain.specs.Steps.{has_name}
-use Rattle.iris_table.specs.View.{kind_below}
+use Rattle.iris_rows.specs.View.{kind_below}
 use Rattle.iris_table.specs.Stops.{root_of}
-use Rattle.iris_table.proofs.Removing.{if_ok}
-use Rattle.iris_table.proofs.Opening.{page_rest, page_none}
+use Rattle.iris_table.proofs.RowTakenOut.{if_ok}
+use Rattle.iris_table.proofs.DirectoryRows.{page_rest, page_none}
 use Rattle.iris_table.proofs.rows.page.Goals as goal
 
 pub returns-in-ADirectory : goal.returns-in-ADirectory

@@ -1,7 +1,7 @@
 use Rattle.std.proofs.Common.{◌≡◌, sym, ◌∙◌, ap, subst, ◌++◌, ◌∷◌, [], List, ℕ, append_assoc}
 use Rattle.std.proofs.lemmas.List.{append-nil}
 use Rattle.iris_plain.specs.Pages.{IsPage}
-use Rattle.iris_table.specs.Items.{grown}
+use Rattle.iris_rows.specs.Items.{grown}
 use Rattle.iris_table.specs.Stops.{is_name_of}
 use Rattle.iris_plain.proofs.PageLaws.{page_more, page_ends, page_full}
 use Rattle.iris_table.proofs.rows.page_of.Goals as goal

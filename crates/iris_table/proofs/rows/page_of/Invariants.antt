@@ -1,6 +1,6 @@
 use Rattle.std.proofs.Common.{◌++◌, ◌-◌, ℕ, List}
 use Rattle.iris_plain.specs.Pages.{IsPage}
-use Rattle.iris_table.specs.Items.{grown}
+use Rattle.iris_rows.specs.Items.{grown}
 use Rattle.iris_table.specs.Stops.{is_name_of}
 use Rattle.iris_table.proofs.rows.page_of.Given as goal
 

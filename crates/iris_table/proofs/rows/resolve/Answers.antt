@@ -1,5 +1,5 @@
 use Rattle.std.proofs.Common.{arith, sym, ◌∙◌, []}
-use Rattle.iris_table.proofs.Resolving.{ends_higher, passes, differs, arrives, barred, goes_in, ends}
+use Rattle.iris_table.proofs.StopAmongItems.{ends_higher, passes, differs, arrives, barred, goes_in, ends}
 use Rattle.iris_table.proofs.rows.resolve.Goals as goal
 use Rattle.iris_table.proofs.rows.resolve.Goals.{then-item-level-2+then-is_name+else-level-names+else-is_some, else-item-level-2, else-item-level-2-via-then-item-level-2+else-is_name, else-item-level-2-via-else-item-level-2}
 

@@ -1,6 +1,6 @@
 use Rattle.std.proofs.Common.{◌≡◌, ◌<◌, length, drop}
 use Rattle.iris_table.specs.Stops.{stop}
-use Rattle.iris_table.proofs.Resolving.{moved_on}
+use Rattle.iris_table.proofs.StopAmongItems.{moved_on}
 use Rattle.iris_table.proofs.rows.resolve.Given as goal
 
 abbrev pub invariant-loop-k : goal.invariant-loop-k

@@ -1,6 +1,6 @@
 use Rattle.std.proofs.Common.{sym, ◌∙◌, ◌+◌, ap, drop}
 use Rattle.iris_table.specs.Stops.{deeper}
-use Rattle.iris_table.proofs.Lifting.{counted}
+use Rattle.iris_table.proofs.RunAtDepth.{counted}
 use Rattle.iris_table.proofs.rows.run_len.Goals as goal
 
 pub returns-clause-value : goal.returns-clause-value

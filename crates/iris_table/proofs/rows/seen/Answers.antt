@@ -1,6 +1,6 @@
 use Rattle.std.proofs.Common.{sym, ◌∙◌, ap}
-use Rattle.iris_table.specs.Changes.{seen_row}
-use Rattle.iris_table.proofs.Meeting.{some_names, met_standing, met_absent, met_barred}
+use Rattle.iris_rows.specs.Changes.{seen_row}
+use Rattle.iris_table.proofs.MetRow.{some_names, met_standing, met_absent, met_barred}
 use Rattle.iris_table.proofs.rows.seen.Goals as goal
 
 pub returns-in-Standing : goal.returns-in-Standing

@@ -4,12 +4,12 @@ use Rattle.std.proofs.lemmas.Result.{IfOk-weaker, on_ok_weaker}
 use Rattle.iris_name.specs.Paths.{names_of}
 use Rattle.iris_name.specs.declared.request.Request.{Request}
 use Rattle.iris_name.specs.declared.request.Request.TheVariants.{Mkdir, Create, Write, Read, Resize, Stat, List as ListNames, Rename, Remove}
-use Rattle.iris_table.specs.Rows.{File}
-use Rattle.iris_table.specs.Changes.{made, changed_by_names, stepped, table_verdict}
-use Rattle.iris_table.specs.Places.{file_of}
+use Rattle.iris_rows.specs.Rows.{File}
+use Rattle.iris_rows.specs.Changes.{made, changed_by_names, stepped, table_verdict}
+use Rattle.iris_rows.specs.Places.{file_of}
 use Rattle.iris_table.specs.Served.{table_in}
 use Rattle.iris_table.specs.Replies.{TableReplies}
-use Rattle.iris_table.proofs.Stepping.{told_plain}
+use Rattle.iris_table.proofs.ServedStep.{told_plain}
 use Rattle.iris_table.proofs.step.serve.Goals as goal
 
 pub returns-in-Mkdir-clause-reply : goal.returns-in-Mkdir-clause-reply

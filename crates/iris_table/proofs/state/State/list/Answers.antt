@@ -5,9 +5,9 @@ use Rattle.iris_plain.specs.Pages.{IsPage}
 use Rattle.iris_plain.specs.Steps.{has_name}
 use Rattle.iris_plain.proofs.StepLaws.{right}
 use Rattle.iris_name.specs.declared.request.PlainError.TheVariants.{NotDir}
-use Rattle.iris_table.specs.declared.item.Item.{Item}
-use Rattle.iris_table.specs.Changes.{seen_in}
-use Rattle.iris_table.specs.View.{kind_below}
+use Rattle.iris_rows.specs.declared.item.Item.{Item}
+use Rattle.iris_rows.specs.Changes.{seen_in}
+use Rattle.iris_rows.specs.View.{kind_below}
 use Rattle.iris_table.specs.Stops.{root_of}
 use Rattle.iris_table.specs.Served.{State, table_in}
 use Rattle.iris_table.proofs.state.State.list.Goals as goal

@@ -1,10 +1,10 @@
 use Rattle.std.proofs.Common.{sym, ◌∙◌, ap}
 use Rattle.iris_plain.specs.Routes.{parent, is_top}
 use Rattle.iris_plain.specs.Checks.{is_full, is_directory_seen}
-use Rattle.iris_table.specs.Changes.{seen_in, seen_row}
+use Rattle.iris_rows.specs.Changes.{seen_in, seen_row}
 use Rattle.iris_table.specs.Stops.{met_in}
 use Rattle.iris_table.specs.Served.{State, table_in}
-use Rattle.iris_table.proofs.Stepping.{new_dir}
+use Rattle.iris_table.proofs.ServedStep.{new_dir}
 use Rattle.iris_table.proofs.state.State.make.Goals as goal
 
 pub insert-requires-clause-parent : goal.insert-requires-clause-parent

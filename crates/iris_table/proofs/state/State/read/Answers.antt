@@ -3,11 +3,11 @@ use Rattle.iris_name.specs.Paths.{names_of}
 use Rattle.iris_plain.specs.Checks.{read_checks}
 use Rattle.iris_plain.proofs.StepLaws.{right}
 use Rattle.iris_name.specs.declared.request.Reply.TheVariants.{Bytes as BytesAre}
-use Rattle.iris_table.specs.Changes.{seen_in}
+use Rattle.iris_rows.specs.Changes.{seen_in}
 use Rattle.iris_table.specs.Stops.{met_in, file_met}
-use Rattle.iris_table.specs.Places.{file_of}
+use Rattle.iris_rows.specs.Places.{file_of}
 use Rattle.iris_table.specs.Served.{State, table_in}
-use Rattle.iris_table.proofs.Stepping.{bytes_met}
+use Rattle.iris_table.proofs.ServedStep.{bytes_met}
 use Rattle.iris_table.proofs.state.State.read.Goals as goal
 
 pub returns-in-Some-file_at : goal.returns-in-Some-file_at

@@ -1,7 +1,7 @@
 use Rattle.std.proofs.Common.{◌∙◌, ap}
 use Rattle.std.specs.Prelude.{not}
 use Rattle.iris_name.specs.declared.request.Reply.TheVariants.{Reclaimed}
-use Rattle.iris_table.proofs.Stepping.{left_is}
+use Rattle.iris_table.proofs.ServedStep.{left_is}
 use Rattle.iris_table.proofs.state.State.reclaim.Goals as goal
 
 pub returns-clause-reply : goal.returns-clause-reply

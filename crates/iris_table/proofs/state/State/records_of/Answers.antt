@@ -1,9 +1,9 @@
 use Rattle.std.proofs.Common.{List, subst}
 use Rattle.std.proofs.lemmas.Result.{IfOk-weaker}
-use Rattle.iris_table.specs.Records.{AreLive}
+use Rattle.iris_records.specs.Records.{AreLive}
 use Rattle.iris_table.specs.Served.{State, table_in}
-use Rattle.iris_table.specs.Stops.{table_over}
-use Rattle.iris_table.specs.declared.item.Item.{Item}
+use Rattle.iris_rows.specs.Items.{table_over}
+use Rattle.iris_rows.specs.declared.item.Item.{Item}
 use Rattle.iris_table.proofs.state.State.records_of.Goals as goal
 
 pub returns : goal.returns

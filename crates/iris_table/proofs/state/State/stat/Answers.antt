@@ -3,9 +3,9 @@ use Rattle.iris_name.specs.Paths.{names_of}
 use Rattle.iris_plain.specs.Checks.{is_directory_seen, size_of, unresolved}
 use Rattle.iris_plain.proofs.StepLaws.{right}
 use Rattle.iris_name.specs.declared.request.Reply.TheVariants.{Stat as StatIs}
-use Rattle.iris_table.specs.Changes.{seen_in}
+use Rattle.iris_rows.specs.Changes.{seen_in}
 use Rattle.iris_table.specs.Served.{table_in}
-use Rattle.iris_table.proofs.Agree.{met_same}
+use Rattle.iris_rows.proofs.ViewByPath.{met_same}
 use Rattle.iris_table.proofs.state.State.stat.Goals as goal
 
 pub returns : goal.returns

@@ -1,6 +1,6 @@
 use Rattle.std.proofs.Common.{◌∙◌, ap}
 use Rattle.iris_table.specs.Served.{State}
-use Rattle.iris_table.proofs.Stepping.{counter_in}
+use Rattle.iris_table.proofs.ServedStep.{counter_in}
 use Rattle.iris_table.proofs.state.State.write.Goals as goal
 
 pub write_at-requires-clause-counter : goal.write_at-requires-clause-counter

@@ -1,7 +1,7 @@
 use Rattle.std.proofs.Common.{IfOk, subst}
 use Rattle.iris_table.specs.Served.{Served, served_table}
 use Rattle.iris_table.specs.Replies.{TableReplies}
-use Rattle.iris_table.proofs.Stepping.{whole_after}
+use Rattle.iris_table.proofs.ServedStep.{whole_after}
 use Rattle.iris_table.proofs.step.Table.step.Goals as goal
 
 pub invariant_of-self : goal.invariant_of-self

@@ -1,0 +1,10 @@
+pub mod Rows
+pub mod FileChanges
+pub mod Changes
+pub mod View
+pub mod Sound
+pub mod Agree
+pub mod Laws
+pub mod Standing
+pub mod Places
+pub mod Items

@@ -1,5 +1,0 @@
-use Rattle.iris_table.proofs.Grammar as grammar
-use Rattle.iris_table.proofs.law.nodes_fit.Goals as goal
-
-pub returns : goal.returns
-returns c = grammar.nodes_fit

@@ -1,4 +1,0 @@
-use Rattle.iris_table.proofs.records.+side_of.Given as goal
-
-abbrev pub decreases-side_of : goal.decreases-side_of
-decreases-side_of l = l.level

@@ -1,5 +1,0 @@
-use Rattle.iris_table.proofs.Parting.{adds_twice}
-use Rattle.iris_table.proofs.records.put_file.Goals as goal
-
-pub returns-clause-puts : goal.returns-clause-puts
-returns-clause-puts c = adds_twice c.args.keys.now.block _ _ _ _ _ c.in_ok-put_blocks.ensures (c.in_ok-versions.ensures.puts c.args.keys.now.block)
