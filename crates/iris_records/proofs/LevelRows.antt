@@ -6,30 +6,16 @@ use Rattle.std.proofs.lemmas.List.{append-nil}
 use Rattle.iris_shape.specs.declared.rows.Row.{Row as LevelRow}
 use Rattle.iris_rows.specs.declared.item.Item.{Item}
 use Rattle.iris_records.specs.declared.records.Told.{Told}
+use Rattle.iris_rows.proofs.GrownRows.{row_of as grown_row, grown_higher, grown_deeper, grown_here}
 use Rattle.iris_rows.specs.Items.{grown, kept_file}
 use Rattle.iris_rows.specs.Rows.{End, Row}
 use Rattle.iris_records.specs.Shown.{treap_of_entries, owns, directory}
 use Rattle.iris_records.specs.Walks.{row_of, told, own_of, all_owns}
 
-pub grown_above : (d : ℕ) (item : Item) (rest : List Item) → item.depth < d → grown d (item ∷ rest) ≡ End
-grown_above d item rest h = by (nat_lt item.depth d) refl where
-  by : (c : Bool) → nat_lt item.depth d ≡ c → cond c End (cond (nat_lt d item.depth) (grown d rest) (Row item.id.0 item.name (kept_file item.file) (grown (d + 1) rest) (grown d rest))) ≡ End
-  by true e = refl
-  by false e = absurd (let k : d ≤ item.depth = grind (arith, nat_tests) in omega (arith, h, k))
-
-pub grown_deeper : (d : ℕ) (item : Item) (rest : List Item) → d < item.depth → grown d (item ∷ rest) ≡ grown d rest
-grown_deeper d item rest h = by (nat_lt item.depth d) refl (nat_lt d item.depth) refl where
-  by : (c : Bool) → nat_lt item.depth d ≡ c → (a : Bool) → nat_lt d item.depth ≡ a → cond c End (cond a (grown d rest) (Row item.id.0 item.name (kept_file item.file) (grown (d + 1) rest) (grown d rest))) ≡ grown d rest
-  by true e a f = absurd (let k : item.depth < d = grind (arith, nat_tests) in omega (arith, h, k))
-  by false e true f = refl
-  by false e false f = absurd (let k : item.depth ≤ d = grind (arith, nat_tests) in omega (arith, h, k))
-
-pub grown_here : (d : ℕ) (item : Item) (rest : List Item) → item.depth ≡ d → grown d (item ∷ rest) ≡ Row item.id.0 item.name (kept_file item.file) (grown (d + 1) rest) (grown d rest)
-grown_here d item rest h = by (nat_lt item.depth d) refl (nat_lt d item.depth) refl where
-  by : (c : Bool) → nat_lt item.depth d ≡ c → (a : Bool) → nat_lt d item.depth ≡ a → cond c End (cond a (grown d rest) (Row item.id.0 item.name (kept_file item.file) (grown (d + 1) rest) (grown d rest))) ≡ Row item.id.0 item.name (kept_file item.file) (grown (d + 1) rest) (grown d rest)
-  by true e a f = absurd (let k : item.depth < d = grind (arith, nat_tests) in omega (arith, h, k))
-  by false e true f = absurd (let k : d < item.depth = grind (arith, nat_tests) in omega (arith, h, k))
-  by false e false f = refl
+-- the item of a row at its depth, written out
+pub row_here : (d : ℕ) (item : Item) (rest : List Item) → item.depth ≡ d → grown d (item ∷ rest) ≡ Row item.id.0 item.name (kept_file item.file) (grown (d + 1) rest) (grown d rest)
+unfolding grown_row
+row_here d item rest h = grown_here d item rest h
 
 owns_row : (order : List ℕ) (d : ℕ) (item : Item) (rest : List Item) → item.depth ≡ d
     → owns order (Row item.id.0 item.name (kept_file item.file) (grown (d + 1) rest) (grown d rest)) ≡ own_of order item rest ∷ owns order (grown d rest)
@@ -38,7 +24,7 @@ owns_row order d item rest h =
     ap (λ z. record { id = item.id.0; name = item.name; file = kept_file item.file; inside = treap_of_entries order (owns order (grown (z + 1) rest)) } ∷ owns order (grown d rest)) (sym h)
 
 pub owns_here : (order : List ℕ) (d : ℕ) (item : Item) (rest : List Item) → item.depth ≡ d → owns order (grown d (item ∷ rest)) ≡ own_of order item rest ∷ owns order (grown d rest)
-owns_here order d item rest h = ap (owns order) (grown_here d item rest h) ∙ owns_row order d item rest h
+owns_here order d item rest h = ap (owns order) (row_here d item rest h) ∙ owns_row order d item rest h
 
 -- rows found so far, and those that are to come
 pub record SoFar (order : List ℕ) (d : ℕ) (items : List Item) (rows : List LevelRow) (tolds : List Told) (rest : List Item) : Type 0 where

@@ -32,7 +32,8 @@ use Rattle.iris_records.specs.Pieces.{Adds}
 use Rattle.iris_records.specs.Walks.{told, own_of, link_blocks, IsItem, IsRising, IsFit, AreFit, AreStored, inside_item, inside_items, among_items, root_of_items, shown_items}
 use Rattle.iris_records.proofs.EntryRecords.{blocks_linked}
 use Rattle.iris_rows.proofs.RowsByName.{same_tells}
-use Rattle.iris_records.proofs.LevelRows.{grown_above, grown_deeper, grown_here}
+use Rattle.iris_rows.proofs.GrownRows.{grown_higher, grown_deeper}
+use Rattle.iris_records.proofs.LevelRows.{row_here}
 use Rattle.iris_records.proofs.PartRecords.{either_assoc, either_none, adds_one, adds_same}
 
 -- a root's node
@@ -106,7 +107,7 @@ chain_down : (order : List ℕ) (n : Name) (d e : ℕ) (item : Item) (items : Li
 chain_down order n zero e item items h l = let k : 0 ≡ e = omega (arith, l) in ap (λ z. chain order n z (item ∷ items)) k
 chain_down order n (suc d) e item items h l = by (nat_le e d) refl (λ k. chain_down order n d e item items h k) where
   by : (b : Bool) → nat_le e d ≡ b → (e ≤ d → chain order n d (item ∷ items) ≡ chain order n e (item ∷ items)) → chain order n (suc d) (item ∷ items) ≡ chain order n e (item ∷ items)
-  by true t f = let k : e ≤ d = grind (arith, nat_tests) in ap (λ z. either (inside_rows order n z) (chain order n d (item ∷ items))) (grown_above (suc d) item items (omega (arith, h, k))) ∙ f k
+  by true t f = let k : e ≤ d = grind (arith, nat_tests) in ap (λ z. either (inside_rows order n z) (chain order n d (item ∷ items))) (grown_higher (suc d) item items (omega (arith, h, k))) ∙ f k
   by false t f = let k : suc d ≤ e = grind (arith, nat_tests) in let j : suc d ≡ e = omega (arith, k, l) in ap (λ z. chain order n z (item ∷ items)) j
 
 -- rows that lie higher are those of the items that follow
@@ -133,13 +134,13 @@ chain_here : (order : List ℕ) (n : Name) (e : ℕ) (item : Item) (items : List
     → chain order n e (item ∷ items) ≡ either (inside_item order n item file items) (chain order n (most_depth item file) items)
 chain_here order n zero item items file f h =
     sym (either_none (inside_rows order n (grown 0 (item ∷ items))))
-    ∙ ap (λ z. either (inside_rows order n z) None) (grown_here 0 item items h ∙ ap (λ z. Row item.id.0 item.name (kept_file z) (grown (0 + 1) items) (grown 0 items)) f)
+    ∙ ap (λ z. either (inside_rows order n z) None) (row_here 0 item items h ∙ ap (λ z. Row item.id.0 item.name (kept_file z) (grown (0 + 1) items) (grown 0 items)) f)
     ∙ row_inside order n item items file None 0 h ∙ ap (either (inside_item order n item file items)) (ends file) where
       ends : (file : Option Kept) → either (deeper order n file (grown (0 + 1) items)) (either (inside_rows order n (grown 0 items)) None) ≡ chain order n (most_depth item file) items
       ends None = ap (either (inside_rows order n (grown (0 + 1) items))) (either_none (inside_rows order n (grown 0 items))) ∙ (let k : suc 0 ≡ item.depth + 1 = omega (arith, h) in ap (λ z. chain order n z items) k)
       ends (Some f) = either_none (inside_rows order n (grown 0 items)) ∙ ap (λ z. chain order n z items) (sym h)
 chain_here order n (suc d) item items file f h =
-    ap (λ z. either (inside_rows order n z) (chain order n d (item ∷ items))) (grown_here (suc d) item items h ∙ ap (λ z. Row item.id.0 item.name (kept_file z) (grown (suc d + 1) items) (grown (suc d) items)) f)
+    ap (λ z. either (inside_rows order n z) (chain order n d (item ∷ items))) (row_here (suc d) item items h ∙ ap (λ z. Row item.id.0 item.name (kept_file z) (grown (suc d + 1) items) (grown (suc d) items)) f)
     ∙ ap (either (inside_rows order n (Row item.id.0 item.name (kept_file file) (grown (suc d + 1) items) (grown (suc d) items)))) (chain_past order n d item items (omega (arith, h)))
     ∙ row_inside order n item items file (chain order n d items) (suc d) h ∙ ap (either (inside_item order n item file items)) (ends file) where
       ends : (file : Option Kept) → either (deeper order n file (grown (suc d + 1) items)) (either (inside_rows order n (grown (suc d) items)) (chain order n d items)) ≡ chain order n (most_depth item file) items
@@ -204,7 +205,7 @@ pub fits_all : (d : ℕ) (items : List Item) → IsForestTo d items → Fits d i
 fits_all d [] f h = tt
 fits_all d (item ∷ items) f h = (fit, fits_all (most_depth item item.file) items f.1 (next item.file)) where
   here : grown item.depth (item ∷ items) ≡ Row item.id.0 item.name (kept_file item.file) (grown (item.depth + 1) items) (grown item.depth items)
-  here = grown_here item.depth item items refl
+  here = row_here item.depth item items refl
 
   ordered : IsOrdered (Row item.id.0 item.name (kept_file item.file) (grown (item.depth + 1) items) (grown item.depth items))
   ordered = subst IsOrdered here (h.ordered item.depth f.0)
