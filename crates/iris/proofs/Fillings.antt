@@ -7,7 +7,7 @@ use Rattle.std.specs.Str.{IsUtf8}
 use lib.Utf8.{encode}
 use Rattle.iris_history.specs.Values.{AreBytes}
 use Rattle.iris.specs.Lines.{filled_block}
-use Rattle.iris.specs.Registers.{zeros}
+use Rattle.iris_rows.specs.Rows.{zeros}
 
 pub filled_from : (bytes old made : List ℕ) (n : ℕ) → made ≡ take 4096 old ++ replicate (4096 - n) 0 → n ≡ length old → old ≡ bytes → length bytes ≤ 4096 → made ≡ filled_block bytes
 filled_from bytes old made n e len same le = e ∙ rw (len, same) (ap (λ z. z ++ replicate (4096 - length bytes) 0) (take_all 4096 bytes le))

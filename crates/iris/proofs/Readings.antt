@@ -21,7 +21,8 @@ use Rattle.iris_history.proofs.Pasts.{begun_here, comes_last}
 use Rattle.iris_history.proofs.Records.{got_passing, clean_put}
 use Rattle.iris.specs.Agrees.{Agrees}
 use Rattle.iris.specs.Answers.{IsRightReply}
-use Rattle.iris.specs.Registers.{Registers, register_at, registers, register_rules, block_name, shown_register, zeros, LegalRegisters, BadRegisters, Clean}
+use Rattle.iris.specs.Registers.{Registers, register_at, registers, register_rules, block_name, shown_register, LegalRegisters, BadRegisters, Clean}
+use Rattle.iris_rows.specs.Rows.{zeros}
 use Rattle.iris.proofs.Tables.{table, older, unwritten, live_shown, version_shown, shown_same, same_self, is_live}
 use Rattle.iris.proofs.Steps.{noted}
 

@@ -17,7 +17,8 @@ use Rattle.iris_history.proofs.Growth.{judged_more}
 use Rattle.iris_history.proofs.Pasts.{past_last}
 use Rattle.iris.specs.Agrees.{Agrees, Keeps}
 use Rattle.iris.specs.Answers.{IsRightReply}
-use Rattle.iris.specs.Registers.{registers, register_rules, BadRegisters, LegalRegisters, Clean, zeros, register_at, block_name}
+use Rattle.iris.specs.Registers.{registers, register_rules, BadRegisters, LegalRegisters, Clean, register_at, block_name}
+use Rattle.iris_rows.specs.Rows.{zeros}
 use Rattle.iris.specs.declared.session.Session.{Session}
 use Rattle.iris.specs.Lines.{filled_block, read_of}
 use Rattle.iris.specs.Session.{IsJudged, IsReady, HasShape}

@@ -11,7 +11,8 @@ use Rattle.iris_name.specs.History.{Past}
 use Rattle.iris_name.specs.Names.{same_name}
 use Rattle.iris_history.specs.Kept.{table_of, after_note, takes_step, version_of}
 use Rattle.iris_history.proofs.Pasts.{table_keeps}
-use Rattle.iris.specs.Registers.{Registers, zeros, stepped_registers, register_at, registers, block_name, shown_register}
+use Rattle.iris.specs.Registers.{Registers, stepped_registers, register_at, registers, block_name, shown_register}
+use Rattle.iris_rows.specs.Rows.{zeros}
 
 -- the registers after a past
 abbrev pub table : List ℕ → Past → Registers

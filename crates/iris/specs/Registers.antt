@@ -1,5 +1,5 @@
 -- The block registers: a counter, and for each place of one file a version and a block.
-use Rattle.std.specs.Prelude.{ℕ, ◌+◌, ◌/◌, ◌≡◌, ◌≢◌, List, [], replicate, not, ◌==◌, ◌&&◌, if◌then◌else◌, Option, Some, None}
+use Rattle.std.specs.Prelude.{ℕ, ◌+◌, ◌/◌, ◌≡◌, ◌≢◌, List, [], not, ◌==◌, ◌&&◌, if◌then◌else◌, Option, Some, None}
 use Rattle.iris_name.specs.declared.name.Name.{Name}
 use Rattle.iris_name.specs.declared.name.Name.TheVariants.{Entry, Part, Block}
 use Rattle.iris_name.specs.declared.request.Request.{Request}
@@ -11,16 +11,13 @@ use Rattle.iris_name.specs.History.{Past}
 use Rattle.iris_history.specs.Kept.{Kept, table_of}
 use Rattle.iris_history.specs.Legal.{Rules, IsLegal, IsBad}
 use Rattle.iris_history.specs.Status.{IsClean}
+use Rattle.iris_rows.specs.Rows.{zeros}
 
 -- How often was written, and of each place the version and the block.
 pub record Registers : Type 0 where
   pub counter : ℕ
   pub version : ℕ → ℕ
   pub block : ℕ → List ℕ
-
--- a block of zeros
-unfoldable pub zeros : List ℕ
-zeros = replicate 4096 0
 
 -- before the first write
 abbrev pub fresh_registers : Registers

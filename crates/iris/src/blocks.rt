@@ -5,7 +5,8 @@ ghost use Rattle.iris_name.specs.Hmac.{record_of};
 ghost use Rattle.iris_history.specs.Values.{AreBytes, IsRequest, IsReply};
 ghost use Rattle.iris.specs.Answers.{IsRightReply};
 ghost use Rattle.iris.specs.Lines.{filled_block, read_of};
-ghost use Rattle.iris.specs.Registers.{block_name as name_of, zeros};
+ghost use Rattle.iris.specs.Registers.{block_name as name_of};
+ghost use Rattle.iris_rows.specs.Rows.{zeros};
 
 use iris_mac::{Keys, passes, tag};
 use iris_name::{
@@ -35,7 +36,7 @@ pub fn fill(bytes: Bytes) -> Result<Bytes, NoMemory>
 }
 
 /// A block of zeros.
-#[tactic(auto, unfolding(crate::specs::Registers::zeros))]
+#[tactic(auto, unfolding(iris_rows::specs::Rows::zeros))]
 pub fn zeros(alloc: Global) -> Result<Bytes, NoMemory>
     ensures { IfOk result (λ block. block ≡ zeros) }
 {

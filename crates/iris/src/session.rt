@@ -7,7 +7,7 @@ ghost use Rattle.iris_name.specs.declared.note.Note.TheVariants.{Call};
 ghost use Rattle.iris_history.specs.Values.{AreBytes, IsRequest, IsReply};
 ghost use Rattle.iris.specs.Agrees.{Keeps};
 ghost use Rattle.iris.specs.Lines.{IsInRange, request_of, write_of, read_of};
-ghost use Rattle.iris.specs.Registers.{zeros as block_of_zeros};
+ghost use Rattle.iris_rows.specs.Rows.{zeros as block_of_zeros};
 ghost use Rattle.iris.specs.Said.{saying, silent};
 ghost use Rattle.iris.specs.Session.{Serves, Stops, IsReady, IsFew, IsOneMore, IsJudged, HasShape};
 ghost use Rattle.iris.specs.Top.{IsEmptyLog};

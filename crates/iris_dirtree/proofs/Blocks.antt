@@ -18,11 +18,11 @@ use Rattle.iris_node.specs.declared.node.Node.TheVariants as node
 use Rattle.iris_node.specs.Fields.{EntryFields}
 use Rattle.iris_node.specs.Local.{Lead, led, led_by, local, entry_local}
 use Rattle.iris_node.specs.Trees.{IsAbove, node_name}
-use Rattle.iris_node.specs.Unfolded.{Unfolded, Absent, Folder, Leaf, Even, Split, Stored, id_of, blocks}
+use Rattle.iris_node.specs.Unfolded.{Unfolded, Absent, Folder, Leaf, Even, Split, Stored, id_of, blocks, link_blocks}
 use Rattle.iris_node.specs.Walk.{BlockAt, walk, file_blocks, block_count}
 use Rattle.iris_node.proofs.Walking.{counted}
 use Rattle.iris_cache.specs.Pictures.{Holds, BodyHolds}
-use Rattle.iris_dirtree.specs.Nodes.{link_blocks, own_blocks}
+use Rattle.iris_dirtree.specs.Nodes.{own_blocks}
 use Rattle.iris_dirtree.specs.Places.{down_to}
 use Rattle.iris_dirtree.specs.Turns.{IsTurn}
 use Rattle.iris_dirtree.specs.Ways.{Any}

@@ -11,13 +11,13 @@ use Rattle.iris_node.specs.declared.node.Node.{Node}
 use Rattle.iris_node.specs.declared.node.Node.TheVariants as node
 use Rattle.iris_node.specs.Fields.{EntryFields}
 use Rattle.iris_node.specs.Local.{Lead, led, led_by, local, local_of, entry_local}
-use Rattle.iris_node.specs.Trees.{Shown, IsAbove, IsParent, node_name}
+use Rattle.iris_node.specs.Trees.{Shown, IsAbove, IsParent, node_name, IsRootName}
 use Rattle.iris_node.specs.Unfolded.{Unfolded, Absent, Folder, Leaf, Even, Split, Stored, id_of, blocks}
 use Rattle.iris_cache.specs.declared.held.Held.{Held}
 use Rattle.iris_cache.specs.Laws.{AreFormed, IsFormed, IsSide}
 use Rattle.iris_cache.specs.Resident.{Resident, held_node}
 use Rattle.iris_cache.specs.Pictures.{Pictures, IsLike, Holds, BodyHolds, LinkHolds}
-use Rattle.iris_dirtree.specs.Rows.{IsRooted, IsRootName}
+use Rattle.iris_dirtree.specs.Rows.{IsRooted}
 use Rattle.iris_dirtree.specs.Grafts.{WasHash}
 use Rattle.iris_dirtree.specs.Nodes.{IsLinkIn}
 use Rattle.iris_dirtree.proofs.There.{got}

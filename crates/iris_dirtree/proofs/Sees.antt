@@ -6,7 +6,7 @@ use Rattle.iris_name.specs.declared.note.Expect.{Expect}
 use Rattle.iris_name.specs.declared.note.Expect.TheVariants.{Hash}
 use Rattle.iris_node.specs.declared.node.Node.{Node}
 use Rattle.iris_node.specs.Unfolded.{Unfolded}
-use Rattle.iris_node.specs.Trees.{Shown, IsTree, IsParent, IsNodeName}
+use Rattle.iris_node.specs.Trees.{Shown, IsTree, IsParent, IsNodeName, IsRootName}
 use Rattle.iris_cache.specs.declared.held.Held.{Held}
 use Rattle.iris_cache.specs.declared.draft.Change.{Change}
 use Rattle.iris_cache.specs.Resident.{Resident, held_node}
@@ -14,7 +14,7 @@ use Rattle.iris_cache.specs.Drafted.{Drafted, drafted, seen, known, known_by, th
 use Rattle.iris_cache.specs.Needs.{IsExpected}
 use Rattle.iris_cache.specs.Pictures.{Pictures, Drafts, IsLike, IsSettled, IsHashOf, WasHash, Holds, parent_after}
 use Rattle.iris_cache.proofs.Lacking.{unknown, parent_named, child_named, not_live, not_known}
-use Rattle.iris_dirtree.specs.Rows.{Row, IsRootName}
+use Rattle.iris_dirtree.specs.Rows.{Row}
 use Rattle.iris_dirtree.specs.Hands.{Holding}
 use Rattle.iris_dirtree.specs.Needs.{IsWanted}
 use Rattle.iris_dirtree.proofs.There.{is_there, never_none}

@@ -13,7 +13,7 @@ use Rattle.iris_node.specs.declared.node.Node.{Node}
 use Rattle.iris_node.specs.declared.node.Node.TheVariants as node
 use Rattle.iris_node.specs.Fields.{EntryFields, PartFields}
 use Rattle.iris_node.specs.Local.{led, led_by, local, entry_local}
-use Rattle.iris_node.specs.Trees.{Shown, IsParent, IsAbove, node_name}
+use Rattle.iris_node.specs.Trees.{Shown, IsParent, IsAbove, node_name, IsRootName}
 use Rattle.iris_node.specs.Unfolded.{Unfolded, Absent, Folder, Leaf, Even, Split, Stored, id_of}
 use Rattle.iris_shape.specs.Treap.{Treap, Over, treap}
 use Rattle.iris_cache.specs.declared.held.Short.{Short}
@@ -22,7 +22,7 @@ use Rattle.iris_cache.specs.Resident.{Resident}
 use Rattle.iris_cache.specs.Drafted.{Drafted, seen, known, there_by}
 use Rattle.iris_cache.specs.Pictures.{IsLike, Holds, LinkHolds, BodyHolds}
 use Rattle.iris_cache.proofs.Lacking.{unknown}
-use Rattle.iris_dirtree.specs.Rows.{Row, row_entry, unfolded_rows, up, HasRows, IsRootName}
+use Rattle.iris_dirtree.specs.Rows.{Row, row_entry, unfolded_rows, up, HasRows}
 use Rattle.iris_dirtree.specs.Ways.{Any}
 use Rattle.iris_dirtree.specs.Needs.{IsWanted, IsDirectory, IsDirNode, IsLack, Lacks, Listed}
 use Rattle.iris_dirtree.specs.Found.{entry_of_node, inside, body_inside}

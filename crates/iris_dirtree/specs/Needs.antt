@@ -8,7 +8,7 @@ use Rattle.iris_node.specs.declared.node.Body.{Body}
 use Rattle.iris_node.specs.declared.node.Body.TheVariants.{Dir, File}
 use Rattle.iris_node.specs.declared.node.Node.{Node}
 use Rattle.iris_node.specs.declared.node.Node.TheVariants as node
-use Rattle.iris_node.specs.Trees.{Shown, IsTree, IsParent}
+use Rattle.iris_node.specs.Trees.{Shown, IsTree, IsParent, IsRootName}
 use Rattle.iris_node.specs.Unfolded.{id_of}
 use Rattle.iris_cache.specs.declared.held.Short.{Short}
 use Rattle.iris_cache.specs.declared.held.Short.TheVariants.{Need, NoMemory}
@@ -17,7 +17,7 @@ use Rattle.iris_cache.specs.Drafted.{Drafted, drafted, seen}
 use Rattle.iris_cache.specs.Needs.{IsExpected}
 use Rattle.iris_cache.specs.Laws.{AreFormed}
 use Rattle.iris_cache.specs.Pictures.{Drafts}
-use Rattle.iris_dirtree.specs.Rows.{Row, HasRows, IsRooted, IsRootName}
+use Rattle.iris_dirtree.specs.Rows.{Row, HasRows, IsRooted}
 use Rattle.iris_dirtree.specs.Hands.{Holding}
 use Rattle.iris_dirtree.specs.Ways.{Any}
 

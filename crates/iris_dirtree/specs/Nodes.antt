@@ -17,6 +17,7 @@ use Rattle.iris_cache.specs.declared.held.Short.TheVariants.{Need, NoMemory}
 use Rattle.iris_cache.specs.Resident.{Resident}
 use Rattle.iris_cache.specs.Pictures.{Holds}
 use Rattle.iris_cache.specs.Drafted.{Drafted, drafted, known, set_to}
+use Rattle.iris_node.specs.Unfolded.{link_blocks}
 
 -- the link to the entries of greater names, or to those of lesser ones
 abbrev pub link_toward : Bool → EntryFields → Option Link
@@ -31,11 +32,6 @@ turned false k e = record { id = e.id; name = e.name; left = k; right = e.right;
 -- an entry with these links beside it
 abbrev pub between : Option Link → Option Link → EntryFields → EntryFields
 between low high e = record { id = e.id; name = e.name; left = low; right = high; body = e.body }
-
--- the blocks at and below a link
-abbrev pub link_blocks : Option Link → ℕ
-link_blocks None = 0
-link_blocks (Some l) = l.blocks
 
 -- the blocks of a file, or those inside a directory
 abbrev pub own_blocks : Body → ℕ

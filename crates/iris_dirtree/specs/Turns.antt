@@ -7,17 +7,15 @@ use Rattle.iris_node.specs.declared.node.Body.TheVariants.{Dir, File}
 use Rattle.iris_node.specs.declared.node.Link.{Link}
 use Rattle.iris_node.specs.Fields.{EntryFields}
 use Rattle.iris_node.specs.Walk.{BlockAt}
-use Rattle.iris_dirtree.specs.Nodes.{link_blocks, own_blocks}
+use Rattle.iris_dirtree.specs.Nodes.{own_blocks}
+use Rattle.iris_node.specs.Unfolded.{link_blocks}
 use Rattle.iris_dirtree.specs.declared.placing.Turn.{Turn}
 use Rattle.iris_dirtree.specs.declared.placing.Turn.TheVariants.{Own, Under}
+use Rattle.iris_node.specs.Rules.{IsFileBody}
 
 abbrev pub IsDirOver : Body → Option Link → Type 0
 IsDirOver (Dir top) link = link ≡ top
 IsDirOver (File size counter versions) link = ⊥
-
-abbrev pub IsFileBody : Body → Type 0
-IsFileBody (Dir top) = ⊥
-IsFileBody (File size counter versions) = Unit {0}
 
 -- The block at a place of the walk at and below an entry is its own, or is at a place of the walk under one of its links.
 abbrev pub IsTurn : ℕ → EntryFields → Turn → Type 0

@@ -10,7 +10,8 @@ ghost use Rattle.iris_shape.specs.Order.{less_name, outranks, beats};
 ghost use Rattle.iris_cache.specs.Drafted.{drafted, seen, set_to};
 ghost use Rattle.iris_cache.specs.Pictures.{parent_after};
 ghost use Rattle.iris_dirtree.specs.Needs.{IsDirectory};
-ghost use Rattle.iris_dirtree.specs.Nodes.{link_toward, turned, between, link_blocks, own_blocks, node_blocks, LinksTo, IsPut, dir_top, IsLinkLack, IsTopLack, OnlyEntries};
+ghost use Rattle.iris_dirtree.specs.Nodes.{link_toward, turned, between, own_blocks, node_blocks, LinksTo, IsPut, dir_top, IsLinkLack, IsTopLack, OnlyEntries};
+ghost use Rattle.iris_node.specs.Unfolded.{link_blocks};
 ghost use Rattle.iris_dirtree.specs.Planted.{topped, with_top};
 
 use iris_cache::{Cache, Draft, Short};

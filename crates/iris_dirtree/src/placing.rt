@@ -2,11 +2,11 @@
 
 ghost use Rattle.std.specs.Prelude.{◌≡◌, ◌+◌, ◌<◌, ◌≤◌, IfOk, IfErr, IfSome, IsSome, None, MatchOption, slice_get};
 ghost use Rattle.iris_node.specs.Trees.{Shown};
-ghost use Rattle.iris_node.specs.Unfolded.{Unfolded, blocks};
+ghost use Rattle.iris_node.specs.Unfolded.{Unfolded, blocks, link_blocks};
 ghost use Rattle.iris_node.specs.Walk.{walk};
 ghost use Rattle.iris_name.specs.declared.name.Name.TheVariants as name;
 ghost use Rattle.iris_cache.specs.Drafted.{known, seen};
-ghost use Rattle.iris_dirtree.specs.Nodes.{link_blocks, own_blocks, node_blocks};
+ghost use Rattle.iris_dirtree.specs.Nodes.{own_blocks, node_blocks};
 ghost use Rattle.iris_dirtree.specs.Places.{Rooted, whole_walk, IsPlaceLack};
 ghost use Rattle.iris_dirtree.specs.Turns.{IsTurn, block_found};
 ghost use Rattle.iris_dirtree.specs.Below.{RootIs, IsBelowLack};

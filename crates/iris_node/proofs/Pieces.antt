@@ -13,7 +13,8 @@ use Rattle.iris_node.specs.declared.node.Side.TheVariants.{Fold, Below}
 use Rattle.iris_node.specs.declared.node.Link.{Link}
 use Rattle.iris_node.specs.Nodes.{FitsHash, FitsLink, FitsSide}
 use Rattle.iris_node.specs.Spelling.{link, spelled_side, named}
-use Rattle.iris_node.specs.Reading.{◌>>=◌, id_of, number_at, read_byte, hash_at, link_at, side_at, text_in, named_at}
+use Rattle.iris_node.specs.Reading.{◌>>=◌, number_at, read_byte, hash_at, link_at, side_at, text_in, named_at}
+use Rattle.iris_node.specs.Unfolded.{id_of}
 
 abbrev pub IsBytes : List ℕ → Type 0
 IsBytes bytes = (i : ℕ) → get_or bytes i 0 < 256

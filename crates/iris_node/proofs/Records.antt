@@ -16,7 +16,8 @@ use Rattle.iris_node.specs.Fields.{EntryFields, PartFields}
 use Rattle.iris_node.specs.Nodes.{FitsBody, FitsEntry, FitsPart, IsNode}
 use Rattle.iris_node.specs.Rules.{IsEntry, IsPart}
 use Rattle.iris_node.specs.Spelling.{link, spelled_side, named, kind_byte, body, spelled_entry, part, spelling}
-use Rattle.iris_node.specs.Reading.{◌>>=◌, Reads, id_of, number_at, read_byte, link_at, side_at, named_at, body_at, read_entry, part_at}
+use Rattle.iris_node.specs.Reading.{◌>>=◌, Reads, number_at, read_byte, link_at, side_at, named_at, body_at, read_entry, part_at}
+use Rattle.iris_node.specs.Unfolded.{id_of}
 use Rattle.iris_node.specs.Tests.{is_entry, is_part}
 use Rattle.iris_node.specs.Whole.{whole_entry, whole_part, whole_node}
 use Rattle.iris_node.proofs.Deciding.{entry_kept, entry_test, part_kept, part_test}

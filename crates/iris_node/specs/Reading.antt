@@ -10,6 +10,7 @@ use Rattle.iris_node.specs.declared.node.Link.{Link}
 use Rattle.iris_node.specs.declared.node.Body.{Body}
 use Rattle.iris_node.specs.declared.node.Body.TheVariants.{Dir, File}
 use Rattle.iris_node.specs.Fields.{EntryFields, PartFields}
+use Rattle.iris_node.specs.Unfolded.{id_of}
 
 infixl 10 ◌>>=◌
 -- the next field, where the one before was read
@@ -21,10 +22,6 @@ None >>= f = None
 abbrev pub Reads : {X Y : Type 0} → (X → Y) → Option X → Option Y → Type 0
 Reads view (Some x) read = read ≡ Some (view x)
 Reads view None read = read ≡ None
-
--- a number as an id
-abbrev pub id_of : ℕ → FileId
-id_of n = record { 0 = n }
 
 -- a number of this width
 abbrev pub number_at : Width → List ℕ → Option (ℕ × List ℕ)

@@ -79,3 +79,8 @@ pub record IsPart (p : PartFields) : Type 0 where
   pub index : p.index < 2 ^ (most_level - p.level)
   pub places : p.level ≡ 1 → IsFold p.low × IsFold p.high
   pub split : AreUnequalSides p.low p.high
+
+-- what the entry of a file says
+abbrev pub IsFileBody : Body → Type 0
+IsFileBody (Dir top) = ⊥
+IsFileBody (File size counter versions) = Unit {0}

@@ -72,3 +72,7 @@ pub record IsTree (t : Shown) : Type 0 where
   pub below : (p n : Name) (u w : Unfolded) → t p ≡ Some u → IsAbove u w → node_name w ≡ Some n → t n ≡ Some w
   -- a node has one parent
   pub once : (n p q : Name) → IsParent t p n → IsParent t q n → p ≡ q
+
+-- the name of the visible root, or of the trash
+abbrev pub IsRootName : Name → Type 0
+IsRootName n = (n ≡ Entry (id_of 0)) ⊎ (n ≡ Entry (id_of 1))

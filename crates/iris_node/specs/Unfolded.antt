@@ -94,3 +94,8 @@ spelled_node (Some n) = spelling n
 -- the record of an entry or a part
 abbrev pub node_record : Unfolded → List ℕ
 node_record u = spelled_node (node_of u)
+
+-- how many blocks lie behind a link
+abbrev pub link_blocks : Option Link → ℕ
+link_blocks None = 0
+link_blocks (Some l) = l.blocks

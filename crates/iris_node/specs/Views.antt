@@ -1,6 +1,6 @@
 -- What has been read, as the fields of a node.
 use Rattle.iris_node.specs.Fields.{EntryFields, PartFields}
-use Rattle.iris_node.specs.Reading.{id_of}
+use Rattle.iris_node.specs.Unfolded.{id_of}
 use Rattle.iris_node.specs.declared.fields.EntryRead.{EntryRead}
 use Rattle.iris_node.specs.declared.fields.PartRead.{PartRead}
 

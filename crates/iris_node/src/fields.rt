@@ -3,7 +3,8 @@
 ghost use Rattle.std.specs.Prelude.{◌≡◌, List, ℕ, length};
 ghost use Rattle.std.specs.Int.{w32, w64};
 ghost use Rattle.iris_node.specs.Fields.{EntryFields, PartFields};
-ghost use Rattle.iris_node.specs.Reading.{Reads, id_of, number_at, hash_at, link_at, side_at, named_at, body_at, read_entry, read_byte, part_at, text_in};
+ghost use Rattle.iris_node.specs.Reading.{Reads, number_at, hash_at, link_at, side_at, named_at, body_at, read_entry, read_byte, part_at, text_in};
+ghost use Rattle.iris_node.specs.Unfolded.{id_of};
 ghost use Rattle.iris_node.specs.Views.{entry_read, part_read};
 
 use crate::node::{Body, Link, Side};

@@ -25,10 +25,10 @@ module _ (o : Option Path) (names : Path) (is : o ≡ Some names) (checks : Path
   pub right : (R : Path → Type 0) (reply : Reply) → checks names ≡ None → R names → Judged (on_names o checks) (OnNames o R) reply
   right R reply h r = judged_ok (OnNames o R) reply h (let P : Option Path → Type 0 = λ o. OnNames o R in subst P (sym is) r)
 
-  pub next_err : (p : PlainState) (change : Path → PlainState) (e : PlainError) → checks names ≡ Some e → p ≡ cond (is_none (on_names o checks)) (by_names p o change) p
+  pub next_err : {S : Type 0} (p : S) (change : Path → S) (e : PlainError) → checks names ≡ Some e → p ≡ cond (is_none (on_names o checks)) (by_names p o change) p
   next_err p change e h = sym (ap (λ v. cond (is_none v) (by_names p o change) p) (ap (λ o. on_names o checks) is ∙ h))
 
-  pub next_ok : (p q : PlainState) (change : Path → PlainState) → checks names ≡ None → q ≡ change names → q ≡ cond (is_none (on_names o checks)) (by_names p o change) p
+  pub next_ok : {S : Type 0} (p q : S) (change : Path → S) → checks names ≡ None → q ≡ change names → q ≡ cond (is_none (on_names o checks)) (by_names p o change) p
   next_ok p q change h e = e ∙ sym (ap (λ o. by_names p o change) is) ∙ sym (ap (λ v. cond (is_none v) (by_names p o change) p) (ap (λ o. on_names o checks) is ∙ h))
 
 -- the list after a change, at the next age

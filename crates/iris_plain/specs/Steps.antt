@@ -17,9 +17,9 @@ abbrev pub aged : (Files → Files) → PlainState → PlainState
 aged change p = record { files = change p.files; age = p.age + 1 }
 
 -- a change by the names of a path, none where there are none
-abbrev pub by_names : PlainState → Option (List (List ℕ)) → (List (List ℕ) → PlainState) → PlainState
-by_names p None change = p
-by_names p (Some names) change = change names
+abbrev pub by_names : {S : Type 0} → S → Option (List (List ℕ)) → (List (List ℕ) → S) → S
+by_names s None change = s
+by_names s (Some names) change = change names
 
 -- what an accepted request changes
 abbrev pub plain_change : PlainState → Request → PlainState

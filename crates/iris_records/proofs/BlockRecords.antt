@@ -14,7 +14,7 @@ use Rattle.iris_rows.specs.declared.file.Place.{Place}
 use Rattle.iris_rows.specs.Places.{Kept, file_of, version_at, place_version, block_of}
 use Rattle.iris_records.specs.Records.{Records, looked, spelled}
 use Rattle.iris_records.specs.Shown.{in_blocks, block_of_place}
-use Rattle.iris_records.specs.Pieces.{Adds, at_place, kept_block, blocks_below, IsHalved, AreUnequalFolds}
+use Rattle.iris_records.specs.Pieces.{Adds, at_place, kept_block, blocks_below, IsHalved}
 use Rattle.iris_rows.specs.Rows.{File}
 use Rattle.iris_shape.proofs.FoldProofs.{one_fold, folded_same}
 use Rattle.iris_shape.specs.Made.{made_fold}
@@ -83,17 +83,12 @@ pub blocks_end : (key : List ℕ) (file : ℕ) (f : Kept) (a b : Records) → Ad
 blocks_end key file f a b h = adds_same key (λ n. blocks_below (length f.places) n file (file_of f)) (λ n. in_blocks n file (file_of f)) a b (λ n. blocks_all n file f) h
 
 -- the fold of versions goes down no further than places
-apart_of : (x y : Fold) → Differ x y → AreUnequalFolds x y
-apart_of (One v) (One w) h = h
-apart_of (One v) (Two x y) h = tt
-apart_of (Two x y) z h = tt
-
 halved_of : (v : ℕ → ℕ) (l i : ℕ) (f : Fold) → IsFoldOf v l i f → IsHalved l f
 halved_of v l i (One w) h = tt
 halved_of v zero i (Two x y) h = absurd h
 halved_of v (suc l) i (Two x y) h =
     let e : l ≡ suc l - 1 = omega arith in
-    (omega arith, apart_of x y h.0, subst (λ z. IsHalved z x) e (halved_of v l (2 * i) x h.1), subst (λ z. IsHalved z y) e (halved_of v l (2 * i + 1) y h.2))
+    (omega arith, h.0, subst (λ z. IsHalved z x) e (halved_of v l (2 * i) x h.1), subst (λ z. IsHalved z y) e (halved_of v l (2 * i + 1) y h.2))
 
 pub folded_halved : (v : ℕ → ℕ) (l : ℕ) → IsHalved l (folded v l 0)
 folded_halved v l = halved_of v l 0 (folded v l 0) (one_fold v l 0).0

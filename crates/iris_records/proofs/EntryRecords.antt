@@ -12,7 +12,7 @@ use Rattle.iris_name.specs.declared.name.Name.{Name}
 use Rattle.iris_name.specs.declared.name.Name.TheVariants.{Entry, Part, Block}
 use Rattle.iris_node.specs.Rules.{IsFileName, in_name}
 use Rattle.iris_node.specs.Spelling.{spelling}
-use Rattle.iris_node.specs.Unfolded.{Unfolded, Absent, Folder, Leaf, Even, Split, Stored, hash, link_to, node_of, blocks, spelled_node as node_spelled}
+use Rattle.iris_node.specs.Unfolded.{Unfolded, Absent, Folder, Leaf, Even, Split, Stored, hash, link_to, node_of, blocks, spelled_node as node_spelled, link_blocks}
 use Rattle.iris_node.specs.declared.node.Link.{Link}
 use Rattle.iris_node.specs.declared.node.Node.{Node}
 use Rattle.iris_node.specs.declared.node.Node.TheVariants.{Entry as Entry-node}
@@ -24,7 +24,7 @@ use Rattle.iris_records.specs.Records.{Records, looked, spelled}
 use Rattle.iris_records.specs.Shown.{Own, entry_above, entry_in, in_directory}
 use Rattle.iris_rows.specs.Sound.{is_step, has_no_slash}
 use Rattle.iris_records.specs.Pieces.{Adds}
-use Rattle.iris_records.specs.Walks.{at_top, link_blocks, row_of, told_by, own_at}
+use Rattle.iris_records.specs.Walks.{at_top, row_of, told_by, own_at}
 use Rattle.iris_rows.proofs.RowsByName.{same_tells}
 use Rattle.iris_records.proofs.PartRecords.{adds_one, adds_same}
 

@@ -23,7 +23,8 @@ use Rattle.iris_records.proofs.FoldsAndShapes.{unmade_two}
 use Rattle.iris_records.specs.Records.{Records, looked, spelled}
 use Rattle.iris_shape.specs.Sides.{unfolded_side}
 use Rattle.iris_records.specs.Shown.{part_in, in_parts}
-use Rattle.iris_records.specs.Pieces.{Adds, IsHalved, AreUnequalFolds}
+use Rattle.iris_records.specs.Pieces.{Adds, IsHalved}
+use Rattle.iris_shape.specs.FoldLaws.{Differ}
 
 pub either_assoc : {A : Type 0} → (a b c : Option A) → either a (either b c) ≡ either (either a b) c
 either_assoc None b c = refl
@@ -80,7 +81,7 @@ pub places_fold : (file level index : ℕ) (f : Fold) → level ≡ 0 → IsHalv
 places_fold file level index (One v) e h = tt
 places_fold file level index (Two x y) e h = absurd (let k = h.0 in omega (arith, e, k))
 
-pub sides_differ : (file level i j : ℕ) (x y : Fold) → AreUnequalFolds x y
+pub sides_differ : (file level i j : ℕ) (x y : Fold) → Differ x y
     → AreUnequalSides (side_to (unfolded_side file level i x) (node_of (unfolded_side file level i x))) (side_to (unfolded_side file level j y) (node_of (unfolded_side file level j y)))
 unfolding node_of
 sides_differ file level i j (One v) (One w) h = h
@@ -90,7 +91,7 @@ sides_differ file level i j (Two x y) z h = tt
 pub fold_two : (x a b c d : Folded) → x ≡ folded.Two a b → c ≡ a → d ≡ b → unmade_fold x ≡ Two (unmade_fold c) (unmade_fold d)
 fold_two x a b c d e f g = ap unmade_fold e ∙ unmade_two a b ∙ ap (λ z. Two (unmade_fold z) (unmade_fold b)) (sym f) ∙ ap (λ z. Two (unmade_fold c) (unmade_fold z)) (sym g)
 
-pub halved_two : (level : ℕ) (x : Folded) (a b c d : Folded) → x ≡ folded.Two a b → c ≡ a → d ≡ b → IsHalved level (unmade_fold x) → (1 ≤ level) × AreUnequalFolds (unmade_fold c) (unmade_fold d) × IsHalved (level - 1) (unmade_fold c) × IsHalved (level - 1) (unmade_fold d)
+pub halved_two : (level : ℕ) (x : Folded) (a b c d : Folded) → x ≡ folded.Two a b → c ≡ a → d ≡ b → IsHalved level (unmade_fold x) → (1 ≤ level) × Differ (unmade_fold c) (unmade_fold d) × IsHalved (level - 1) (unmade_fold c) × IsHalved (level - 1) (unmade_fold d)
 halved_two level x a b c d e f g h =
     let k : unmade_fold x ≡ Two (unmade_fold c) (unmade_fold d) = fold_two x a b c d e f g in subst (IsHalved level) k h
 
@@ -137,7 +138,7 @@ two_puts key file level index x lo hi node a b c d e h l p f =
     subst (λ z. Adds key (λ n. in_parts n file.0 (unfolded_side file.0 level index z)) a d) (sym e)
     (part_put key file level index (unfolded_side file.0 (level - 1) (2 * index) lo) (unfolded_side file.0 (level - 1) (2 * index + 1) hi) node a b c d h l p f)
 
-pub sides_split : (file level i j : ℕ) (x y : Fold) (l h : Side) → l ≡ side_to (unfolded_side file level i x) (node_of (unfolded_side file level i x)) → h ≡ side_to (unfolded_side file level j y) (node_of (unfolded_side file level j y)) → AreUnequalFolds x y → AreUnequalSides l h
+pub sides_split : (file level i j : ℕ) (x y : Fold) (l h : Side) → l ≡ side_to (unfolded_side file level i x) (node_of (unfolded_side file level i x)) → h ≡ side_to (unfolded_side file level j y) (node_of (unfolded_side file level j y)) → Differ x y → AreUnequalSides l h
 sides_split file level i j x y l h e f a =
     subst (λ z. AreUnequalSides z h) (sym e) (subst (λ z. AreUnequalSides (side_to (unfolded_side file level i x) (node_of (unfolded_side file level i x))) z) (sym f) (sides_differ file level i j x y a))
 

@@ -13,7 +13,7 @@ use Rattle.iris_name.specs.declared.name.Name.{Name}
 use Rattle.iris_name.specs.declared.name.Name.TheVariants.{Entry, Part, Block}
 use Rattle.iris_mac.specs.declared.keys.Keys.{Keys}
 use Rattle.iris_node.specs.Spelling.{spelling}
-use Rattle.iris_node.specs.Unfolded.{Unfolded, Absent, Folder, link_to, node_of, node_record, spelled_node as node_spelled}
+use Rattle.iris_node.specs.Unfolded.{Unfolded, Absent, Folder, link_to, node_of, node_record, spelled_node as node_spelled, link_blocks}
 use Rattle.iris_node.specs.declared.node.Body.TheVariants.{Dir}
 use Rattle.iris_node.specs.declared.node.Link.{Link}
 use Rattle.iris_node.specs.declared.node.Node.{Node}
@@ -29,7 +29,7 @@ use Rattle.iris_rows.specs.Rows.{Rows, End, Row}
 use Rattle.iris_records.specs.Shown.{directory, in_directory, in_file, inside_rows, shown}
 use Rattle.iris_rows.specs.Sound.{times_given, is_step, IsOrdered, IsTrash, IsSound}
 use Rattle.iris_records.specs.Pieces.{Adds}
-use Rattle.iris_records.specs.Walks.{told, own_of, link_blocks, IsItem, IsRising, IsFit, AreFit, AreStored, inside_item, inside_items, among_items, root_of_items, shown_items}
+use Rattle.iris_records.specs.Walks.{told, own_of, IsItem, IsRising, IsFit, AreFit, AreStored, inside_item, inside_items, among_items, root_of_items, shown_items}
 use Rattle.iris_records.proofs.EntryRecords.{blocks_linked}
 use Rattle.iris_rows.proofs.RowsByName.{same_tells}
 use Rattle.iris_rows.proofs.GrownRows.{grown_higher, grown_deeper}

@@ -1,5 +1,5 @@
 -- Records put in under their names, and those of a file's parts and blocks.
-use Rattle.std.specs.Prelude.{◌≡◌, ◌≢◌, ◌≤◌, ◌-◌, ℕ, suc, List, [], ◌∷◌, Bool, false, Option, Some, None, slice_get, ◌==◌, ◌&&◌, nat_lt, if◌then◌else◌}
+use Rattle.std.specs.Prelude.{◌≡◌, ◌≤◌, ◌-◌, ℕ, suc, List, [], ◌∷◌, Bool, false, Option, Some, None, slice_get, ◌==◌, ◌&&◌, nat_lt, if◌then◌else◌}
 use Rattle.std.specs.Option.{option_map}
 use Rattle.iris_name.specs.Names.{same_name}
 use Rattle.iris_name.specs.declared.name.Name.{Name}
@@ -15,6 +15,7 @@ use Rattle.iris_rows.specs.Places.{page_block}
 use Rattle.iris_rows.specs.Rows.{File}
 use Rattle.iris_records.specs.Shown.{versions, block_of_place as block_at_place}
 use Rattle.iris_records.specs.Records.{Records, looked, spelled, comes_before}
+use Rattle.iris_shape.specs.FoldLaws.{Differ}
 
 -- how many records stand before a name
 abbrev pub lesser : Name → Records → ℕ
@@ -33,16 +34,10 @@ is_next at n records = is_record_of n (slice_get records at)
 abbrev pub Adds : List ℕ → (Name → Option Unfolded) → Records → Records → Type 0
 Adds key stands old new = (n : Name) → looked n new ≡ either (option_map (spelled key n) (stands n)) (looked n old)
 
--- two folds that aren't one version
-abbrev pub AreUnequalFolds : Fold → Fold → Type 0
-AreUnequalFolds (One v) (One w) = v ≢ w
-AreUnequalFolds (One v) (Two x y) = Unit {0}
-AreUnequalFolds (Two x y) other = Unit {0}
-
 -- a fold that goes down no further than places, and whose halves differ
 abbrev pub IsHalved : ℕ → Fold → Type 0
 IsHalved level (One version) = Unit {0}
-IsHalved level (Two low high) = (1 ≤ level) × AreUnequalFolds low high × IsHalved (level - 1) low × IsHalved (level - 1) high
+IsHalved level (Two low high) = (1 ≤ level) × Differ low high × IsHalved (level - 1) low × IsHalved (level - 1) high
 
 -- the block of a kept place, none where it is a hole
 abbrev pub kept_block : Place → Option Unfolded

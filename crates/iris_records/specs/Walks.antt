@@ -4,7 +4,6 @@ use Rattle.iris_name.specs.declared.name.Name.{Name}
 use Rattle.iris_name.specs.declared.name.Name.TheVariants.{Entry}
 use Rattle.iris_node.specs.Rules.{IsBody}
 use Rattle.iris_node.specs.Unfolded.{Unfolded, Absent, Folder, Leaf, id_of, link_to, node_of, blocks}
-use Rattle.iris_node.specs.declared.node.Link.{Link}
 use Rattle.iris_node.specs.declared.node.Body.TheVariants.{Dir}
 use Rattle.iris_shape.specs.Local.{either}
 use Rattle.iris_shape.specs.Treap.{Treap, Empty, Over}
@@ -72,11 +71,6 @@ abbrev pub at_top : Name → Unfolded → Option Unfolded
 at_top (Entry i) (Folder id name less more inside) = if i.0 == id then Some (Folder id name less more inside) else None
 at_top (Entry i) (Leaf id name less more size counter versions) = if i.0 == id then Some (Leaf id name less more size counter versions) else None
 at_top n u = None
-
--- how many blocks lie behind a link
-abbrev pub link_blocks : Option Link → ℕ
-link_blocks None = 0
-link_blocks (Some l) = l.blocks
 
 -- rows and what is told of them are those of entries
 pub record IsLevelOf (owns : List Own) (level : Level) : Type 0 where

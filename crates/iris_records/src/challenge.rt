@@ -10,7 +10,7 @@ use iris_name::{FileId, PlainError, Reply};
 use iris_rows::item::Item;
 
 /// What a walk over the blocks of rows meets at a place.
-#[derive(Clone, Copy, Debug)]
+#[derive(Clone, Copy)]
 pub enum Met {
     /// The block of a place of a file, with the version of the place.
     Block {

@@ -2,13 +2,13 @@
 
 ghost use Rattle.std.specs.Prelude.{◌≡◌, ◌≤◌, ◌<◌, ◌-◌, ◌+◌, ◌++◌, ◌∷◌, [], ℕ, List, length, map, Some, None, All, IfOk, OnOk};
 ghost use Rattle.iris_node.specs.Rules.{IsBody, IsLinkToNamed};
-ghost use Rattle.iris_node.specs.Unfolded.{Unfolded, Absent, Folder, node_record, hash, link_to, node_of};
+ghost use Rattle.iris_node.specs.Unfolded.{Unfolded, Absent, Folder, node_record, hash, link_to, node_of, link_blocks};
 ghost use Rattle.iris_records.specs.Records.{AreLive, root_hash};
 ghost use Rattle.iris_rows.specs.Places.{file_of};
 ghost use Rattle.iris_records.specs.Shown.{Own, owns, versions, directory, in_file, in_directory};
 ghost use Rattle.iris_records.specs.Unmade.{unmade_treap};
 ghost use Rattle.iris_records.specs.Pieces.{Adds, file_told};
-ghost use Rattle.iris_records.specs.Walks.{link_blocks, IsRow, IsLevel, IsLevelOf, ArePlacesOf, at_top, placed_entry, placed, IsItem, IsRising, item_row, IsFit, AreFit, AreStored, own_of, inside_item, inside_items, among_items, root_of_items, shown_items, all_owns, told as told_of};
+ghost use Rattle.iris_records.specs.Walks.{IsRow, IsLevel, IsLevelOf, ArePlacesOf, at_top, placed_entry, placed, IsItem, IsRising, item_row, IsFit, AreFit, AreStored, own_of, inside_item, inside_items, among_items, root_of_items, shown_items, all_owns, told as told_of};
 ghost use Rattle.iris_rows.specs.Items.{grown, IsForest, table_over};
 ghost use Rattle.iris_rows.specs.Sound.{times_given, IsSound};
 ghost use Rattle.sha2.specs.Sha256.{sha256};
@@ -27,14 +27,14 @@ use sha2::{Digest, Sha256};
 use std::alloc::Global;
 
 // What an entry says of itself, and how many blocks lie at it and inside it.
-#[derive(Clone, Copy, Debug)]
+#[derive(Clone, Copy)]
 struct Told {
     body: Body,
     blocks: u64,
 }
 
 // The rows of a directory, and what each says.
-#[derive(Debug, Drop)]
+#[derive(Drop)]
 struct Level {
     rows: Vec<Row>,
     told: Vec<Told>,

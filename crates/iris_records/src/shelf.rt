@@ -14,7 +14,7 @@ use std::alloc::Global;
 use std::marker::Model;
 
 /// Records by name, each name once.
-#[derive(Debug, Drop)]
+#[derive(Drop)]
 pub struct Shelf {
     records: Vec<(Name, Bytes)>,
 }

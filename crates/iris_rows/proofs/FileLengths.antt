@@ -13,7 +13,8 @@ use Rattle.iris_plain.specs.Checks.{is_full, on_names, write_checks, resize_chec
 use Rattle.iris_plain.specs.declared.checks.Seen.{Seen}
 use Rattle.iris_plain.specs.declared.checks.Seen.TheVariants.{ADirectory, AFile, Nothing, AFileBefore}
 use Rattle.iris_rows.specs.Rows.{File, Rows, End, Row, Table, Taken, root_row, with_row, without_row, at, file_at, Found, Here, Missing, Through, met, empty_file}
-use Rattle.iris_rows.specs.Changes.{trash_name, made, filed, gone, removed, row_moved, emptied, retrashed, reclaimed, seen_in, changed_by_names, accepted_change, stepped, table_verdict}
+use Rattle.iris_rows.specs.Changes.{trash_name, made, filed, gone, removed, row_moved, emptied, retrashed, reclaimed, seen_in, accepted_change, stepped, table_verdict}
+use Rattle.iris_plain.specs.Steps.{by_names}
 use Rattle.iris_rows.specs.FileChanges.{file_written, cut, freed, count_written}
 use Rattle.iris_rows.specs.Sound.{FitsRecord, OnFile, AllFiles}
 use Rattle.iris_rows.proofs.FilesAmongRows.{all_put, all_without, all_at, all_file_at, all_here}
@@ -90,28 +91,28 @@ short_if : (b : Bool) (t u : Table) → Short t → (b ≡ false → Short u) �
 short_if true t u h k = h
 short_if false t u h k = k refl
 
-on_made : (t : Table) (o : Option (List (List ℕ))) (file : Option File) → OnFile FitsRecord file → Short t → Short (changed_by_names t o (λ names. made file names t))
+on_made : (t : Table) (o : Option (List (List ℕ))) (file : Option File) → OnFile FitsRecord file → Short t → Short (by_names t o (λ names. made file names t))
 on_made t None file g d = d
 on_made t (Some names) file g d = (short_put t names (record { id = t.next; file = file; inside = End }) t.visible g tt d.0, d.1)
 
 on_written : (t : Table) (o : Option (List (List ℕ))) (offset : ℕ) (bytes : List ℕ) → Short t → on_names o (λ names. write_checks (seen_in t names) offset (length bytes) (is_full t.age)) ≡ None
-    → Short (changed_by_names t o (λ names. cond (length bytes == 0) t (filed (file_written offset bytes) names t)))
+    → Short (by_names t o (λ names. cond (length bytes == 0) t (filed (file_written offset bytes) names t)))
 on_written t None offset bytes d e = d
 on_written t (Some names) offset bytes d e = short_if (length bytes == 0) t (filed (file_written offset bytes) names t) d (λ z.
     short_filed t names (file_written offset bytes) (λ f k. short_written offset bytes f (within (offset + length bytes) (write_long (seen_in t names) _ _ (is_full t.age) _ e z)) k) d)
 
 on_resized : (t : Table) (o : Option (List (List ℕ))) (size : ℕ) → Short t → on_names o (λ names. resize_checks (seen_in t names) size (is_full t.age)) ≡ None
-    → Short (changed_by_names t o (λ names. cond (size == size_of (seen_in t names)) t (cond (size == 0) (emptied names t (met t names)) (filed (cut size) names t))))
+    → Short (by_names t o (λ names. cond (size == size_of (seen_in t names)) t (cond (size == 0) (emptied names t (met t names)) (filed (cut size) names t))))
 on_resized t None size d e = d
 on_resized t (Some names) size d e = short_if (size == size_of (seen_in t names)) t _ d (λ z. short_if (size == 0) (emptied names t (met t names)) (filed (cut size) names t)
     (short_emptied t names (met t names) refl d) (λ y. short_filed t names (cut size) (λ f k. within size (resize_long (seen_in t names) _ _ e)) d))
 
-on_moved : (t : Table) (o k : Option (List (List ℕ))) → Short t → Short (changed_by_names t o (λ olds. changed_by_names t k (λ news. row_moved olds news t (met t olds))))
+on_moved : (t : Table) (o k : Option (List (List ℕ))) → Short t → Short (by_names t o (λ olds. by_names t k (λ news. row_moved olds news t (met t olds))))
 on_moved t None k d = d
 on_moved t (Some olds) None d = d
 on_moved t (Some olds) (Some news) d = short_moved t olds news (met t olds) refl d
 
-on_removed : (t : Table) (o : Option (List (List ℕ))) → Short t → Short (changed_by_names t o (λ names. removed names t (met t names)))
+on_removed : (t : Table) (o : Option (List (List ℕ))) → Short t → Short (by_names t o (λ names. removed names t (met t names)))
 on_removed t None d = d
 on_removed t (Some names) d = short_removed t names (met t names) refl d
 

@@ -10,7 +10,8 @@ use Rattle.iris_plain.specs.Routes.{parent, last, is_top, is_front, is_at_or_und
 use Rattle.iris_plain.specs.Checks.{is_full, on_names, no_place, resize_checks, move_checks, size_of, blocks_of}
 use Rattle.iris_rows.specs.Rows.{File, Rows, End, Row, Table, Taken, root_row, find, without_row, at, file_at, Found, Here, Missing, Through, met, empty_file, resolved, followed, entered}
 use Rattle.iris_rows.specs.FileChanges.{file_written, cut, freed, count_written}
-use Rattle.iris_rows.specs.Changes.{made, filed, gone, removed, row_moved, emptied, retrashed, reclaimed, seen_in, changed_by_names, accepted_change, stepped, table_verdict}
+use Rattle.iris_rows.specs.Changes.{made, filed, gone, removed, row_moved, emptied, retrashed, reclaimed, seen_in, accepted_change, stepped, table_verdict}
+use Rattle.iris_plain.specs.Steps.{by_names}
 use Rattle.iris_rows.specs.View.{kind_below, kind_of}
 use Rattle.iris_rows.specs.Sound.{is_step, IsOrdered}
 use Rattle.iris_rows.proofs.Steady.{Steady}
@@ -40,13 +41,13 @@ ordered_filed : (t : Table) (names : List (List ℕ)) (change : File → File) �
 ordered_filed t names change d = ordered_at (parent names) (file_at (last names) change) t.visible (λ inner d. ordered_file_at (last names) change inner d) d
 
 on_made : (t : Table) (o : Option (List (List ℕ))) (file : Option File) → AreNames o → IsOrdered t.visible → on_names o (no_place (seen_in t) (is_full t.age)) ≡ None
-    → IsOrdered (changed_by_names t o (λ names. made file names t)).visible
+    → IsOrdered (by_names t o (λ names. made file names t)).visible
 on_made t None file n d e = d
 on_made t (Some names) file n d e =
     let p = places (seen_in t (parent names)) (seen_in t names) (is_top names) (is_full t.age) e in
     ordered_put_at names (record { id = t.next; file = file; inside = End }) (root_row t) (look_dir t (parent names) p.1) (look_none t names p.2) (n names refl) tt d
 
-on_removed : (t : Table) (o : Option (List (List ℕ))) → IsOrdered t.visible → IsOrdered (changed_by_names t o (λ names. removed names t (met t names))).visible
+on_removed : (t : Table) (o : Option (List (List ℕ))) → IsOrdered t.visible → IsOrdered (by_names t o (λ names. removed names t (met t names))).visible
 on_removed t None d = d
 on_removed t (Some names) d = by (met t names) where
   by : (f : Found) → IsOrdered (removed names t f).visible
@@ -70,13 +71,13 @@ moved_any t n ns news s k d ahead e = by (met t (n ∷ ns)) refl where
 
 on_moved : (t : Table) (o k : Option (List (List ℕ))) → AreNames k → Steady t → IsOrdered t.visible
     → on_names o (λ olds. on_names k (λ news. move_checks (is_top olds) (seen_in t olds) (is_front olds news) (no_place (seen_in t) (is_full t.age) news))) ≡ None
-    → IsOrdered (changed_by_names t o (λ olds. changed_by_names t k (λ news. row_moved olds news t (met t olds)))).visible
+    → IsOrdered (by_names t o (λ olds. by_names t k (λ news. row_moved olds news t (met t olds)))).visible
 on_moved t None k m s d e = d
 on_moved t (Some olds) None m s d e = d
 on_moved t (Some []) (Some news) m s d e = absurd (cc)
 on_moved t (Some (n ∷ ns)) (Some news) m s d e = let p = moves (seen_in t (n ∷ ns)) false (is_front (n ∷ ns) news) _ e in moved_any t n ns news s (m news refl) d p.2 p.3
 
-on_written : (t : Table) (o : Option (List (List ℕ))) (offset : ℕ) (bytes : List ℕ) → IsOrdered t.visible → IsOrdered (changed_by_names t o (λ names. cond (length bytes == 0) t (filed (file_written offset bytes) names t))).visible
+on_written : (t : Table) (o : Option (List (List ℕ))) (offset : ℕ) (bytes : List ℕ) → IsOrdered t.visible → IsOrdered (by_names t o (λ names. cond (length bytes == 0) t (filed (file_written offset bytes) names t))).visible
 on_written t None offset bytes d = d
 on_written t (Some names) offset bytes d = by (length bytes == 0) where
   by : (b : Bool) → IsOrdered (cond b t (filed (file_written offset bytes) names t)).visible
@@ -96,7 +97,7 @@ emptied_any t n ns s k d = by (met t (n ∷ ns)) refl where
   by Through h = d
 
 on_resized : (t : Table) (o : Option (List (List ℕ))) (size : ℕ) → AreNames o → Steady t → IsOrdered t.visible → on_names o (λ names. resize_checks (seen_in t names) size (is_full t.age)) ≡ None
-    → IsOrdered (changed_by_names t o (λ names. cond (size == size_of (seen_in t names)) t (cond (size == 0) (emptied names t (met t names)) (filed (cut size) names t)))).visible
+    → IsOrdered (by_names t o (λ names. cond (size == size_of (seen_in t names)) t (cond (size == 0) (emptied names t (met t names)) (filed (cut size) names t)))).visible
 on_resized t None size k s d e = d
 on_resized t (Some []) size k s d e = absurd (cc)
 on_resized t (Some (n ∷ ns)) size k s d e = by (size == size_of (seen_in t (n ∷ ns))) (size == 0) where

@@ -14,7 +14,8 @@ use Rattle.iris_plain.specs.declared.checks.Seen.TheVariants.{ADirectory, AFile,
 use Rattle.iris_plain.specs.declared.files.Kind.TheVariants.{Dir}
 use Rattle.iris_rows.specs.Rows.{File, Rows, End, Row, Table, Taken, root_row, find, with_row, without_row, at, file_at, Found, Here, Missing, Through, met, empty_file, empty_table, resolved, followed, entered}
 use Rattle.iris_rows.specs.FileChanges.{file_written, cut, freed, count_written}
-use Rattle.iris_rows.specs.Changes.{made, filed, gone, thrown, removed, row_moved, emptied, retrashed, reclaimed, seen_in, changed_by_names, accepted_change, stepped, table_verdict, trash_name}
+use Rattle.iris_rows.specs.Changes.{made, filed, gone, thrown, removed, row_moved, emptied, retrashed, reclaimed, seen_in, accepted_change, stepped, table_verdict, trash_name}
+use Rattle.iris_plain.specs.Steps.{by_names}
 use Rattle.iris_rows.specs.View.{kind_below, kind_of}
 use Rattle.iris_rows.specs.Sound.{IsDistinct, IsGood, AreGood, IsCounted, OnFile, AllFiles, times_given}
 use Rattle.iris_rows.proofs.Steady.{Steady}
@@ -227,13 +228,13 @@ resize_full (AFile n) false same much full e z = by much full (rw z at e) where
   by false true e = absurd (cc)
 
 on_made : (t : Table) (o : Option (List (List ℕ))) (file : Option File) → Steady t → IsGood file → OnFile (IsCounted (t.age + 1)) file → on_names o (no_place (seen_in t) (is_full t.age)) ≡ None
-    → Steady (changed_by_names t o (λ names. made file names t))
+    → Steady (by_names t o (λ names. made file names t))
 on_made t None file s g c e = s
 on_made t (Some names) file s g c e =
     let p = places (seen_in t (parent names)) (seen_in t names) (is_top names) (is_full t.age) e in
     made_sound t names file s (look_dir t (parent names) p.1) (look_none t names p.2) (room t.age (new_full (is_top names) (seen_in t (parent names)) (seen_in t names) (is_full t.age) e)) g c
 
-on_removed : (t : Table) (o : Option (List (List ℕ))) → Steady t → on_names o (λ names. remove_checks (is_top names) (seen_in t names) (is_full t.age)) ≡ None → Steady (changed_by_names t o (λ names. removed names t (met t names)))
+on_removed : (t : Table) (o : Option (List (List ℕ))) → Steady t → on_names o (λ names. remove_checks (is_top names) (seen_in t names) (is_full t.age)) ≡ None → Steady (by_names t o (λ names. removed names t (met t names)))
 on_removed t None s e = s
 on_removed t (Some []) s e = absurd (cc)
 on_removed t (Some (n ∷ ns)) s e = by (met t (n ∷ ns)) refl where
@@ -257,14 +258,14 @@ moved_any t n ns news s ahead e = by (met t (n ∷ ns)) refl where
 
 on_moved : (t : Table) (o k : Option (List (List ℕ))) → Steady t
     → on_names o (λ olds. on_names k (λ news. move_checks (is_top olds) (seen_in t olds) (is_front olds news) (no_place (seen_in t) (is_full t.age) news))) ≡ None
-    → Steady (changed_by_names t o (λ olds. changed_by_names t k (λ news. row_moved olds news t (met t olds))))
+    → Steady (by_names t o (λ olds. by_names t k (λ news. row_moved olds news t (met t olds))))
 on_moved t None k s e = s
 on_moved t (Some olds) None s e = s
 on_moved t (Some []) (Some news) s e = absurd (cc)
 on_moved t (Some (n ∷ ns)) (Some news) s e = let p = moves (seen_in t (n ∷ ns)) false (is_front (n ∷ ns) news) _ e in moved_any t n ns news s p.2 p.3
 
 on_written : (t : Table) (o : Option (List (List ℕ))) (offset : ℕ) (bytes : List ℕ) → Steady t → on_names o (λ names. write_checks (seen_in t names) offset (length bytes) (is_full t.age)) ≡ None
-    → Steady (changed_by_names t o (λ names. cond (length bytes == 0) t (filed (file_written offset bytes) names t)))
+    → Steady (by_names t o (λ names. cond (length bytes == 0) t (filed (file_written offset bytes) names t)))
 on_written t None offset bytes s e = s
 on_written t (Some names) offset bytes s e = elim (positive (length bytes)) [
   | inl z ↦ rw z s
@@ -283,7 +284,7 @@ emptied_any t n ns s a = by (met t (n ∷ ns)) refl where
   by Through h = s
 
 on_resized : (t : Table) (o : Option (List (List ℕ))) (size : ℕ) → Steady t → on_names o (λ names. resize_checks (seen_in t names) size (is_full t.age)) ≡ None
-    → Steady (changed_by_names t o (λ names. cond (size == size_of (seen_in t names)) t (cond (size == 0) (emptied names t (met t names)) (filed (cut size) names t))))
+    → Steady (by_names t o (λ names. cond (size == size_of (seen_in t names)) t (cond (size == 0) (emptied names t (met t names)) (filed (cut size) names t))))
 on_resized t None size s e = s
 on_resized t (Some []) size s e = absurd (cc)
 on_resized t (Some (n ∷ ns)) size s e = by (size == size_of (seen_in t (n ∷ ns))) refl where

@@ -12,7 +12,8 @@ use Rattle.iris_name.specs.Paths.{names_of}
 use Rattle.iris_plain.specs.Routes.{is_name_before}
 use Rattle.iris_plain.specs.Checks.{size_of, blocks_of}
 use Rattle.iris_rows.specs.Rows.{Rows, End, Row, Table, Taken, root_row, find, with_row, Found, Here, Missing, Through, met}
-use Rattle.iris_rows.specs.Changes.{hex_digit, hex_digits, trash_name, thrown, filed, removed, row_moved, emptied, retrashed, reclaimed, seen_in, changed_by_names, accepted_change, stepped, table_verdict}
+use Rattle.iris_rows.specs.Changes.{hex_digit, hex_digits, trash_name, thrown, filed, removed, row_moved, emptied, retrashed, reclaimed, seen_in, accepted_change, stepped, table_verdict}
+use Rattle.iris_plain.specs.Steps.{by_names}
 use Rattle.iris_rows.specs.FileChanges.{file_written, cut, freed, count_written}
 use Rattle.iris_rows.specs.Sound.{times_given, IsOrdered, IsTrash}
 use Rattle.iris_rows.proofs.RowsByName.{same_tells, past}
@@ -108,7 +109,7 @@ trash_reclaimed t (Row id name (Some file) inside next) o l s d = by (count_writ
   by false = d
 
 -- most changes leave the trash, or put a row that was met into it
-on_names_kept : (t : Table) (o : Option (List (List ℕ))) (change : List (List ℕ) → Table) → ((names : List (List ℕ)) → IsTrash (change names).trash) → IsTrash t.trash → IsTrash (changed_by_names t o change).trash
+on_names_kept : (t : Table) (o : Option (List (List ℕ))) (change : List (List ℕ) → Table) → ((names : List (List ℕ)) → IsTrash (change names).trash) → IsTrash t.trash → IsTrash (by_names t o change).trash
 on_names_kept t None change k d = d
 on_names_kept t (Some names) change k d = k names
 

@@ -3,7 +3,8 @@ use Rattle.std.proofs.Common.{◌≡◌, ◌⊎◌, inl, inr, ℕ, ◌+◌, List
 use Rattle.std.proofs.lemmas.Bool.Decides.{nat_tests}
 use Rattle.iris_plain.specs.Checks.{blocks_of, on_names, then_error, error_if, is_there, is_file, is_directory_seen, size_of, unresolved, no_place, verdict, is_full}
 use Rattle.iris_rows.specs.FileChanges.{file_written, cut, freed, count_written}
-use Rattle.iris_rows.specs.Changes.{made, filed, emptied, removed, row_moved, accepted_change, changed_by_names as table_by_names, seen_file, seen_row, seen_in, retrashed, reclaimed, stepped}
+use Rattle.iris_rows.specs.Changes.{made, filed, emptied, removed, row_moved, accepted_change, seen_file, seen_row, seen_in, retrashed, reclaimed, stepped}
+use Rattle.iris_plain.specs.Steps.{aged, by_names, plain_change, plain_step}
 use Rattle.iris_rows.specs.Rows.{File, Rows, End, Row, Table, Taken, with_row, without_row, at, Found, Here, Missing, Through, empty_file, root_row, met}
 use Rattle.std.specs.Str.{bytes_eq as same}
 use Rattle.iris_plain.specs.Routes.{parent, last, is_front, is_at_or_under, rest, is_path, is_top}
@@ -15,7 +16,6 @@ use Rattle.iris_rows.specs.Sound.{IsDistinct, AreGood}
 use Rattle.iris_rows.proofs.RowHolding.{holding}
 use Rattle.iris_plain.specs.declared.checks.Seen.{Seen}
 use Rattle.iris_plain.specs.declared.checks.Seen.TheVariants.{ADirectory as ADir, AFile, Nothing, AFileBefore}
-use Rattle.iris_plain.specs.Steps.{aged, by_names, plain_change, plain_step}
 use Rattle.iris_rows.proofs.ViewOfEmptied.{emptied_at}
 use Rattle.iris_rows.proofs.ResizedContent.{content-cut}
 use Rattle.iris_rows.proofs.ViewOfFiled.{filed_at}
@@ -157,7 +157,7 @@ filed_same t (n ∷ ns) offset bytes g e = elim (positive (length bytes)) [
 on_filed : (t : Table) (o : Option (List (List ℕ))) (offset : ℕ) (bytes : List ℕ) → AreGood t.visible
     → on_names o (λ names. then_error (error_if (nat_lt 262144 (length bytes)) TooMuch) (then_error (unresolved (seen_in t names)) (then_error (error_if (is_directory_seen (seen_in t names)) IsDir)
     (cond (length bytes == 0) None (then_error (error_if (nat_lt 268435456 (offset + length bytes)) TooLong) (error_if (is_full t.age) Full)))))) ≡ None
-    → view (table_by_names t o (λ names. cond (length bytes == 0) t (filed (file_written offset bytes) names t)))
+    → view (by_names t o (λ names. cond (length bytes == 0) t (filed (file_written offset bytes) names t)))
     ≡ by_names (view t) o (λ names. cond (length bytes == 0) (view t) (aged (bytes_changed names (wrote offset bytes)) (view t)))
 on_filed t None offset bytes g e = refl
 on_filed t (Some names) offset bytes g e = filed_same t names offset bytes g (writes (seen_in t names) _ _ _ (length bytes) e)
@@ -203,7 +203,7 @@ resized_same t names len d g e =
 on_resized : (t : Table) (o : Option (List (List ℕ))) (len : ℕ) → IsDistinct t.visible → AreGood t.visible
     → on_names o (λ names. then_error (unresolved (seen_in t names)) (then_error (error_if (is_directory_seen (seen_in t names)) IsDir) (then_error (error_if (nat_lt 268435456 len) TooLong)
     (cond (len == size_of (seen_in t names)) None (then_error (error_if (nat_lt 0 len && nat_lt (blocks_of len + 64) (blocks_of (size_of (seen_in t names)))) TooMuch) (error_if (is_full t.age) Full)))))) ≡ None
-    → view (table_by_names t o (λ names. cond (len == size_of (seen_in t names)) t (cond (len == 0) (emptied names t (met t names)) (filed (cut len) names t))))
+    → view (by_names t o (λ names. cond (len == size_of (seen_in t names)) t (cond (len == 0) (emptied names t (met t names)) (filed (cut len) names t))))
     ≡ by_names (view t) o (λ names. cond (len == size_of (seen_at (view t).files names)) (view t) (aged (bytes_changed names (resized_bytes len)) (view t)))
 on_resized t None len d g e = refl
 on_resized t (Some names) len d g e = resized_same t names len d g (resizes (seen_in t names) _ _ _ _ e)
@@ -218,18 +218,18 @@ reclaimed_same t (Row id name (Some file) inside next) = by (count_written file.
   by false = refl
 
 on_made : (t : Table) (o : Option (List (List ℕ))) (file : Option File) → on_names o (no_place (seen_in t) (is_full t.age)) ≡ None
-    → view (table_by_names t o (λ names. made file names t)) ≡ by_names (view t) o (λ names. aged (set names (kind_of file)) (view t))
+    → view (by_names t o (λ names. made file names t)) ≡ by_names (view t) o (λ names. aged (set names (kind_of file)) (view t))
 on_made t None file e = refl
 on_made t (Some names) file e = made_same t names file e
 
 on_removed : (t : Table) (o : Option (List (List ℕ))) → IsDistinct t.visible → on_names o (λ names. then_error (error_if (is_top names) BadPath) (then_error (unresolved (seen_in t names)) (error_if (is_full t.age) Full))) ≡ None
-    → view (table_by_names t o (λ names. removed names t (met t names))) ≡ by_names (view t) o (λ names. aged (cleared names) (view t))
+    → view (by_names t o (λ names. removed names t (met t names))) ≡ by_names (view t) o (λ names. aged (cleared names) (view t))
 on_removed t None d e = refl
 on_removed t (Some names) d e = removed_same t names d e
 
 on_moved : (t : Table) (o k : Option (List (List ℕ))) → IsDistinct t.visible
     → on_names o (λ olds. on_names k (λ news. then_error (error_if (is_top olds) BadPath) (then_error (unresolved (seen_in t olds)) (then_error (error_if (is_front olds news) IntoSelf) (no_place (seen_in t) (is_full t.age) news))))) ≡ None
-    → view (table_by_names t o (λ olds. table_by_names t k (λ news. row_moved olds news t (met t olds)))) ≡ by_names (view t) o (λ olds. by_names (view t) k (λ news. aged (shifted olds news) (view t)))
+    → view (by_names t o (λ olds. by_names t k (λ news. row_moved olds news t (met t olds)))) ≡ by_names (view t) o (λ olds. by_names (view t) k (λ news. aged (shifted olds news) (view t)))
 on_moved t None k d e = refl
 on_moved t (Some olds) None d e = refl
 on_moved t (Some olds) (Some news) d e = moved_same t olds news d e

@@ -5,6 +5,7 @@ use Rattle.iris_name.specs.declared.request.Request.{Request}
 use Rattle.iris_name.specs.declared.request.Request.TheVariants.{Mkdir, Create, Write, Read, Resize, Stat, List as ListNames, Rename, Remove, Sync, Root, Reclaim, Probe}
 use Rattle.iris_name.specs.Paths.{names_of}
 use Rattle.iris_plain.specs.Routes.{parent, last}
+use Rattle.iris_plain.specs.Steps.{by_names}
 use Rattle.iris_plain.specs.Checks.{blocks_of, verdict, is_full, size_of}
 use Rattle.iris_plain.specs.declared.checks.Seen.{Seen}
 use Rattle.iris_plain.specs.declared.checks.Seen.TheVariants.{ADirectory, AFile, Nothing, AFileBefore}
@@ -87,11 +88,6 @@ reclaimed t (Row id name None (Row i n file inside others) next) =
 reclaimed t (Row id name (Some file) inside next) =
     if count_written file.version (blocks_of file.size) == 0 then retrashed next t else retrashed (Row id name (Some (freed file)) inside next) t
 
--- a change by the names of a path, none where there are none
-abbrev pub changed_by_names : Table → Option (List (List ℕ)) → (List (List ℕ) → Table) → Table
-changed_by_names t None change = t
-changed_by_names t (Some names) change = change names
-
 -- what a row is seen as
 abbrev pub seen_file : Option File → Seen
 seen_file None = ADirectory
@@ -109,16 +105,16 @@ seen_in t names = seen_row (met t names)
 
 -- what an accepted request changes
 abbrev pub accepted_change : Table → Request → Table
-accepted_change t (Mkdir path) = changed_by_names t (names_of path) (λ names. made None names t)
-accepted_change t (Create path) = changed_by_names t (names_of path) (λ names. made (Some empty_file) names t)
-accepted_change t (Write path offset bytes) = changed_by_names t (names_of path) (λ names. if length bytes == 0 then t else filed (file_written offset bytes) names t)
+accepted_change t (Mkdir path) = by_names t (names_of path) (λ names. made None names t)
+accepted_change t (Create path) = by_names t (names_of path) (λ names. made (Some empty_file) names t)
+accepted_change t (Write path offset bytes) = by_names t (names_of path) (λ names. if length bytes == 0 then t else filed (file_written offset bytes) names t)
 accepted_change t (Read path offset count) = t
-accepted_change t (Resize path size) = changed_by_names t (names_of path) (λ names.
+accepted_change t (Resize path size) = by_names t (names_of path) (λ names.
     if size == size_of (seen_in t names) then t else if size == 0 then emptied names t (met t names) else filed (cut size) names t)
 accepted_change t (Stat path) = t
 accepted_change t (ListNames path after) = t
-accepted_change t (Rename from to) = changed_by_names t (names_of from) (λ olds. changed_by_names t (names_of to) (λ news. row_moved olds news t (met t olds)))
-accepted_change t (Remove path) = changed_by_names t (names_of path) (λ names. removed names t (met t names))
+accepted_change t (Rename from to) = by_names t (names_of from) (λ olds. by_names t (names_of to) (λ news. row_moved olds news t (met t olds)))
+accepted_change t (Remove path) = by_names t (names_of path) (λ names. removed names t (met t names))
 accepted_change t Sync = t
 accepted_change t Root = t
 accepted_change t Reclaim = reclaimed t t.trash

@@ -18,14 +18,14 @@ use std::marker::Model;
 const FREED_PLACES: usize = 16;
 
 /// A place of a file: its version and its block. A hole has version 0 and no page, and reads as zeros.
-#[derive(Debug, Drop)]
+#[derive(Drop)]
 pub struct Place {
     pub version: u64,
     pub page: Option<Page>,
 }
 
 /// A file: its length, its counter of writes, and its places up to its number of blocks.
-#[derive(Debug, Drop)]
+#[derive(Drop)]
 pub struct FileRow {
     size: u64,
     counter: u64,

@@ -4,7 +4,7 @@ use crate::file::FileRow;
 use iris_name::{FileId, Text};
 
 /// A row: a file, or a directory, whose rows follow it one level deeper.
-#[derive(Debug, Drop)]
+#[derive(Drop)]
 pub struct Item {
     /// How many directories stand above it, apart from the root or the trash.
     pub depth: usize,

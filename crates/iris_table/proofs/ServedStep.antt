@@ -1,15 +1,15 @@
 -- The reply and the next table, by the checks of a path's names.
 use Rattle.std.proofs.Common.{◌≡◌, ◌≢◌, ℕ, ◌+◌, ◌<◌, ◌≤◌, ◌^◌, List, [], ◌∷◌, length, Bool, true, false, cond, Option, Some, None, refl, sym, ◌∙◌, ap, subst, arith}
-use Rattle.std.specs.Prelude.{is_none, not, ◌==◌, nat_lt}
+use Rattle.std.specs.Prelude.{not, ◌==◌, nat_lt}
 use Rattle.std.proofs.lemmas.Bool.Decides.{nat_tests}
 use Rattle.iris_name.specs.declared.request.PlainError.{PlainError}
 use Rattle.iris_name.specs.declared.request.Request.{Request}
 use Rattle.iris_name.specs.declared.request.Reply.{Reply}
-use Rattle.iris_plain.specs.Checks.{on_names, is_directory_seen, new_name}
+use Rattle.iris_plain.specs.Checks.{is_directory_seen, new_name}
 use Rattle.iris_plain.specs.declared.checks.Seen.{Seen}
 use Rattle.iris_plain.specs.Steps.{Judged, Accepted, PlainReplies, bytes_of}
 use Rattle.iris_rows.specs.Rows.{File, End, Row, Table, Found, Here, Missing, Through, met, root_row}
-use Rattle.iris_rows.specs.Changes.{changed_by_names, stepped}
+use Rattle.iris_rows.specs.Changes.{stepped}
 use Rattle.iris_rows.specs.View.{kind_below, content, kind_of, view}
 use Rattle.iris_rows.specs.Sound.{AreGood, IsSound, IsCounted, OnFile}
 use Rattle.iris_rows.specs.declared.item.Item.{Item}
@@ -23,16 +23,7 @@ use Rattle.iris_rows.proofs.FilesAmongRows.{all_here}
 use Rattle.iris_rows.proofs.SoundStep.{sound_kept}
 use Rattle.iris_name.specs.declared.want.NoMemory.{NoMemory}
 use Rattle.std.specs.Prelude.{Result, Ok, Err, OnOk, OnErr}
-
-abbrev pub Path : Type 0
-Path = List (List ℕ)
-
-module _ (o : Option Path) (names : Path) (is : o ≡ Some names) (checks : Path → Option PlainError) where
-  pub next_err : (t : Table) (change : Path → Table) (e : PlainError) → checks names ≡ Some e → t ≡ cond (is_none (on_names o checks)) (changed_by_names t o change) t
-  next_err t change e h = sym (ap (λ v. cond (is_none v) (changed_by_names t o change) t) (ap (λ o. on_names o checks) is ∙ h))
-
-  pub next_ok : (t q : Table) (change : Path → Table) → checks names ≡ None → q ≡ change names → q ≡ cond (is_none (on_names o checks)) (changed_by_names t o change) t
-  next_ok t q change h e = e ∙ sym (ap (λ o. changed_by_names t o change) is) ∙ sym (ap (λ v. cond (is_none v) (changed_by_names t o change) t) (ap (λ o. on_names o checks) is ∙ h))
+use Rattle.iris_plain.proofs.StepLaws.{Path}
 
 -- a new name stands in a directory
 pub new_dir : (top full : Bool) (s m : Seen) → new_name top s m full ≡ None → is_directory_seen s ≡ true

@@ -17,7 +17,7 @@ use iris_rows::item::Item;
 use std::alloc::Global;
 
 /// Where resolving a path below the root ends among items.
-#[derive(Clone, Copy, Debug, PartialEq, Eq)]
+#[derive(Clone, Copy)]
 pub enum Stop {
     /// At the row that stands here.
     Standing(usize),

@@ -6,7 +6,8 @@ ghost use Rattle.iris_name.specs.declared.request.Request.TheVariants.{Mkdir, Wr
 ghost use Rattle.iris_name.specs.declared.request.Reply.TheVariants.{Reclaimed};
 ghost use Rattle.iris_plain.specs.Checks.{is_full, no_place};
 ghost use Rattle.iris_rows.specs.Rows.{empty_table};
-ghost use Rattle.iris_rows.specs.Changes.{made, changed_by_names, seen_in, stepped, table_verdict};
+ghost use Rattle.iris_rows.specs.Changes.{made, seen_in, stepped, table_verdict};
+ghost use Rattle.iris_plain.specs.Steps.{by_names};
 ghost use Rattle.iris_records.specs.Challenges.{table_walk, IsProbed};
 ghost use Rattle.iris_rows.specs.Items.{kept_file};
 ghost use Rattle.iris_table.specs.Served.{State, table_in, AreForests, IsWhole};
@@ -31,7 +32,7 @@ use std::alloc::Global;
 use std::marker::Model;
 
 /// The rows below the visible root and in the trash, the next id and the age.
-#[derive(Debug, Drop)]
+#[derive(Drop)]
 pub struct State {
     visible: Vec<Item>,
     trash: Vec<Item>,
@@ -124,7 +125,7 @@ impl State {
         requires { IsWhole self.old }
         ensures reply { IfOk result (λ reply. Told (table_in self.old) (Mkdir path.now) reply) }
         ensures step { OnOk result (table_in self.new ≡ (if is_none (table_verdict (table_in self.old) (Mkdir path.now))
-            then changed_by_names (table_in self.old) (names_of path.now) (λ names. made (kept_file file) names (table_in self.old)) else table_in self.old)) }
+            then by_names (table_in self.old) (names_of path.now) (λ names. made (kept_file file) names (table_in self.old)) else table_in self.old)) }
         ensures err { OnErr result (self.new ≡ self.old) }
         ensures forests { AreForests self.new }
     {

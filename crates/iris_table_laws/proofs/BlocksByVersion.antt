@@ -10,7 +10,8 @@ use Rattle.iris_plain.specs.Routes.{is_top, is_front}
 use Rattle.iris_plain.specs.Checks.{is_full, on_names, no_place, resize_checks, move_checks, remove_checks, size_of, blocks_of}
 use Rattle.iris_rows.specs.Rows.{File, Rows, End, Row, Table, Found, Here, Missing, Through, met, empty_file}
 use Rattle.iris_rows.specs.FileChanges.{file_written, cut, freed, count_written}
-use Rattle.iris_rows.specs.Changes.{made, filed, removed, row_moved, emptied, retrashed, reclaimed, seen_in, changed_by_names, accepted_change, stepped, table_verdict, after_requests}
+use Rattle.iris_rows.specs.Changes.{made, filed, removed, row_moved, emptied, retrashed, reclaimed, seen_in, accepted_change, stepped, table_verdict, after_requests}
+use Rattle.iris_plain.specs.Steps.{by_names}
 use Rattle.iris_rows.specs.Sound.{times_given, IsSound, IsCounted, AllFiles, OnFile}
 use Rattle.iris_rows.specs.Standing.{Has, StandsInTable}
 use Rattle.iris_table_laws.specs.Ages.{IsLater, IsLaterPlace, Ages}
@@ -59,7 +60,7 @@ ages t u s n o = record {
 same_table : (t : Table) → (t.next ≤ t.next) × AllOrigins t t
 same_table t = (omega arith, stood t)
 
-grows_made : (t : Table) (o : Option (List (List ℕ))) (file : Option File) → let u = changed_by_names t o (λ names. made file names t) in (t.next ≤ u.next) × AllOrigins t u
+grows_made : (t : Table) (o : Option (List (List ℕ))) (file : Option File) → let u = by_names t o (λ names. made file names t) in (t.next ≤ u.next) × AllOrigins t u
 grows_made t None file = same_table t
 grows_made t (Some names) file = (omega arith, origin_made t names file)
 
@@ -88,20 +89,20 @@ next_reclaimed t (Row id name (Some file) inside next) = by (count_written file.
   by false = omega arith
 
 grows_removed : (t : Table) (o : Option (List (List ℕ))) → on_names o (λ names. remove_checks (is_top names) (seen_in t names) (is_full t.age)) ≡ None
-    → let u = changed_by_names t o (λ names. removed names t (met t names)) in (t.next ≤ u.next) × AllOrigins t u
+    → let u = by_names t o (λ names. removed names t (met t names)) in (t.next ≤ u.next) × AllOrigins t u
 grows_removed t None e = same_table t
 grows_removed t (Some []) e = absurd (cc)
 grows_removed t (Some (n ∷ ns)) e = (next_removed t (n ∷ ns) (met t (n ∷ ns)), any_removed t (n ∷ ns) refl)
 
 grows_moved : (t : Table) (o k : Option (List (List ℕ)))
     → on_names o (λ olds. on_names k (λ news. move_checks (is_top olds) (seen_in t olds) (is_front olds news) (no_place (seen_in t) (is_full t.age) news))) ≡ None
-    → let u = changed_by_names t o (λ olds. changed_by_names t k (λ news. row_moved olds news t (met t olds))) in (t.next ≤ u.next) × AllOrigins t u
+    → let u = by_names t o (λ olds. by_names t k (λ news. row_moved olds news t (met t olds))) in (t.next ≤ u.next) × AllOrigins t u
 grows_moved t None k e = same_table t
 grows_moved t (Some olds) None e = same_table t
 grows_moved t (Some []) (Some news) e = absurd (cc)
 grows_moved t (Some (n ∷ ns)) (Some news) e = (next_moved t (n ∷ ns) news (met t (n ∷ ns)), any_moved t (n ∷ ns) news refl)
 
-grows_written : (t : Table) (o : Option (List (List ℕ))) (offset : ℕ) (bytes : List ℕ) → let u = changed_by_names t o (λ names. cond (length bytes == 0) t (filed (file_written offset bytes) names t)) in (t.next ≤ u.next) × AllOrigins t u
+grows_written : (t : Table) (o : Option (List (List ℕ))) (offset : ℕ) (bytes : List ℕ) → let u = by_names t o (λ names. cond (length bytes == 0) t (filed (file_written offset bytes) names t)) in (t.next ≤ u.next) × AllOrigins t u
 grows_written t None offset bytes = same_table t
 grows_written t (Some names) offset bytes = by (length bytes == 0) where
   by : (b : Bool) → (t.next ≤ (cond b t (filed (file_written offset bytes) names t)).next) × AllOrigins t (cond b t (filed (file_written offset bytes) names t))
@@ -109,7 +110,7 @@ grows_written t (Some names) offset bytes = by (length bytes == 0) where
   by false = (omega arith, origin_filed t names (file_written offset bytes) (later_written offset bytes))
 
 grows_resized : (t : Table) (o : Option (List (List ℕ))) (size : ℕ) → on_names o (λ names. resize_checks (seen_in t names) size (is_full t.age)) ≡ None
-    → let u = changed_by_names t o (λ names. cond (size == size_of (seen_in t names)) t (cond (size == 0) (emptied names t (met t names)) (filed (cut size) names t))) in (t.next ≤ u.next) × AllOrigins t u
+    → let u = by_names t o (λ names. cond (size == size_of (seen_in t names)) t (cond (size == 0) (emptied names t (met t names)) (filed (cut size) names t))) in (t.next ≤ u.next) × AllOrigins t u
 grows_resized t None size e = same_table t
 grows_resized t (Some []) size e = absurd (cc)
 grows_resized t (Some (n ∷ ns)) size e = by (size == size_of (seen_in t (n ∷ ns))) (size == 0) where

@@ -250,7 +250,7 @@ blocks_owns order (Row id name None inside next) s =
     let a = blocks_owns order inside s.1 in let b = blocks_owns order next s.2 in omega (arith, e, t, a, b)
 blocks_owns order (Row id name (Some f) inside next) s = let a = most_blocks f.size s.0 in let b = blocks_owns order next s.2 in omega (arith, a, b)
 
-blocks_rows : (order : List ℕ) (rows : Rows) → AllFiles FitsRecord rows → blocks (directory order rows) ≤ 65536 * rows_in rows
+pub blocks_rows : (order : List ℕ) (rows : Rows) → AllFiles FitsRecord rows → blocks (directory order rows) ≤ 65536 * rows_in rows
 unfolding directory
 blocks_rows order rows s =
     let e = blocks_entries (treap (beside (priority order) own_id) (owns order rows)) in

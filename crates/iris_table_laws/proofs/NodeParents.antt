@@ -2,9 +2,9 @@
 use Rattle.std.proofs.Common.{◌≡◌, ◌⊎◌, inl, inr, ℕ, List, Some, refl, sym, ◌∙◌, ap, arith}
 use Rattle.iris_name.specs.declared.name.Name.{Name}
 use Rattle.iris_name.specs.declared.name.Name.TheVariants.{Entry, Part}
-use Rattle.iris_node.specs.Trees.{IsAbove, IsParent, node_name}
+use Rattle.iris_node.specs.Trees.{IsAbove, IsParent, node_name, IsRootName}
 use Rattle.iris_node.specs.Unfolded.{Unfolded, Absent, Folder, Leaf, Even, Split, Stored, id_of}
-use Rattle.iris_table_laws.specs.Parents.{IsRootName, NodesHaveParents, RootsHaveNone}
+use Rattle.iris_table_laws.specs.Parents.{NodesHaveParents, RootsHaveNone}
 use Rattle.iris_rows.specs.Rows.{Table}
 use Rattle.iris_records.specs.Shown.{root_entry, trash_entry, shown}
 use Rattle.iris_rows.specs.Sound.{IsSound}

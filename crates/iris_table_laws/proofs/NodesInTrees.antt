@@ -134,7 +134,7 @@ held_entries w n k (Over o l m) h = held_entry w n k o o.file (unfolded_entries 
   | inr s ↦ elim s [ inl a ↦ inl (held_entries w n k l a) | inr a ↦ inr (inl (held_entries w n k m a)) ]
 ])
 
-held_arranged : (order : List ℕ) (w : Unfolded) (n : Name) (k : Nest) (os : List Own) → Some_row (λ o. Holds w n k (inside_own o)) os → Holds w n k (nest (treap_of_entries order os))
+pub held_arranged : (order : List ℕ) (w : Unfolded) (n : Name) (k : Nest) (os : List Own) → Some_row (λ o. Holds w n k (inside_own o)) os → Holds w n k (nest (treap_of_entries order os))
 held_arranged order w n k os h =
     held_entries w n k (treap (beside (priority order) own_id) os) (in_treap (λ o. Holds w n k (inside_own o)) (beside (priority order) own_id) os h)
 

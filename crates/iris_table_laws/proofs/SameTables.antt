@@ -24,7 +24,7 @@ use Rattle.iris_table_laws.proofs.SameNodes.{SideOf, EntryOf, FitsAt, same_side,
 
 -- the shape of entries and sides, whatever the nodes say
 
-abbrev IsSide : ℕ → ℕ → ℕ → Unfolded → Type 0
+abbrev pub IsSide : ℕ → ℕ → ℕ → Unfolded → Type 0
 IsSide file level index (Even v) = Unit {0}
 IsSide file level index (Split f l j low high) = (f ≡ file) × (l ≡ level) × (j ≡ index) × IsSide file (level - 1) (2 * index) low × IsSide file (level - 1) (2 * index + 1) high
 IsSide file level index Absent = ⊥
@@ -32,7 +32,7 @@ IsSide file level index (Folder id name less more inside) = ⊥
 IsSide file level index (Leaf id name less more size counter versions) = ⊥
 IsSide file level index (Stored v bytes) = ⊥
 
-abbrev IsEntries : Unfolded → Type 0
+abbrev pub IsEntries : Unfolded → Type 0
 IsEntries Absent = Unit {0}
 IsEntries (Folder id name less more inside) = IsEntries less × IsEntries more × IsEntries inside
 IsEntries (Leaf id name less more size counter versions) = IsEntries less × IsEntries more × IsSide id 16 0 versions
@@ -40,7 +40,7 @@ IsEntries (Even v) = ⊥
 IsEntries (Split f l j low high) = ⊥
 IsEntries (Stored v bytes) = ⊥
 
-side_shape : (file level index : ℕ) (x : Fold) → IsSide file level index (unfolded_side file level index x)
+pub side_shape : (file level index : ℕ) (x : Fold) → IsSide file level index (unfolded_side file level index x)
 side_shape file level index (One v) = tt
 side_shape file level index (Two x y) = (refl, refl, refl, side_shape file (level - 1) (2 * index) x, side_shape file (level - 1) (2 * index + 1) y)
 
@@ -59,15 +59,15 @@ entries_shape : (t : Treap Own) → Every IsInside t → IsEntries (unfolded_ent
 entries_shape Empty e = tt
 entries_shape (Over o l m) e = entry_shape o o.file (unfolded_entries l) (unfolded_entries m) e.0 (entries_shape l e.1) (entries_shape m e.2)
 
-arranged_shape : (order : List ℕ) (os : List Own) → Each IsInside os → IsEntries (treap_of_entries order os)
+pub arranged_shape : (order : List ℕ) (os : List Own) → Each IsInside os → IsEntries (treap_of_entries order os)
 arranged_shape order os e = entries_shape (treap (beside (priority order) own_id) os) (every_treap IsInside (beside (priority order) own_id) os e)
 
-owns_shape : (order : List ℕ) (rows : Rows) → Each IsInside (owns order rows)
+pub owns_shape : (order : List ℕ) (rows : Rows) → Each IsInside (owns order rows)
 owns_shape order End = tt
 owns_shape order (Row id name None inside next) = (arranged_shape order (owns order inside) (owns_shape order inside), owns_shape order next)
 owns_shape order (Row id name (Some f) inside next) = (tt, owns_shape order next)
 
-directory_shape : (order : List ℕ) (rows : Rows) → IsEntries (directory order rows)
+pub directory_shape : (order : List ℕ) (rows : Rows) → IsEntries (directory order rows)
 unfolding directory
 directory_shape order rows = arranged_shape order (owns order rows) (owns_shape order rows)
 

@@ -11,7 +11,8 @@ use Rattle.iris_name.specs.declared.request.Request.TheVariants.{Mkdir, Create, 
 use Rattle.iris_plain.specs.Checks.{blocks_of, size_of}
 use Rattle.iris_plain.specs.Routes.{is_name_before, parent, last}
 use Rattle.iris_rows.specs.FileChanges.{file_written, cut, freed, count_written}
-use Rattle.iris_rows.specs.Changes.{hex_digit, hex_digits, trash_name, gone, made, filed, removed, row_moved, emptied, retrashed, reclaimed, changed_by_names, seen_in, accepted_change, table_verdict}
+use Rattle.iris_rows.specs.Changes.{hex_digit, hex_digits, trash_name, gone, made, filed, removed, row_moved, emptied, retrashed, reclaimed, seen_in, accepted_change, table_verdict}
+use Rattle.iris_plain.specs.Steps.{by_names}
 use Rattle.iris_rows.specs.Rows.{File, Rows, End, Row, Table, Taken, find, with_row, without_row, at, file_at, on_file, Found, Here, Missing, Through, resolved, followed, entered, met, root_row, empty_file}
 use Rattle.iris_table_laws.specs.Texts.{AreTexts, HasTexts}
 use Rattle.iris_table_laws.specs.TextsStay.{IsOfTexts, TextsBegin, TextsStay}
@@ -212,9 +213,9 @@ reclaimed_texts t (Row id name (Some file) inside next) h k = by (count_written 
   by true = (h.0, k.2)
   by false = (h.0, k)
 
-by_texts : (t : Table) (text : List ℕ) (change : List (List ℕ) → Table) → HasTexts t → IsUtf8 text → ((names : List (List ℕ)) → AllTexts names → HasTexts (change names)) → HasTexts (changed_by_names t (names_of text) change)
+by_texts : (t : Table) (text : List ℕ) (change : List (List ℕ) → Table) → HasTexts t → IsUtf8 text → ((names : List (List ℕ)) → AllTexts names → HasTexts (change names)) → HasTexts (by_names t (names_of text) change)
 by_texts t text change h u k = by (names_of text) refl where
-  by : (o : Option (List (List ℕ))) → names_of text ≡ o → HasTexts (changed_by_names t o change)
+  by : (o : Option (List (List ℕ))) → names_of text ≡ o → HasTexts (by_names t o change)
   by None e = h
   by (Some names) e = k names (names_texts text names u e)
 
@@ -235,7 +236,7 @@ changed_texts t (Resize path size) h u =
 changed_texts t (Stat path) h u = h
 changed_texts t (ListNames path after) h u = h
 changed_texts t (Rename from to) h u =
-    by_texts t from (λ olds. changed_by_names t (names_of to) (λ news. row_moved olds news t (met t olds))) h u.0 (λ olds a. by_texts t to (λ news. row_moved olds news t (met t olds)) h u.1 (λ news b. moved_texts t olds news h b (met t olds) refl))
+    by_texts t from (λ olds. by_names t (names_of to) (λ news. row_moved olds news t (met t olds))) h u.0 (λ olds a. by_texts t to (λ news. row_moved olds news t (met t olds)) h u.1 (λ news b. moved_texts t olds news h b (met t olds) refl))
 changed_texts t (Remove path) h u = by_texts t path (λ names. removed names t (met t names)) h u (λ names a. removed_texts t names h (met t names) refl)
 changed_texts t Sync h u = h
 changed_texts t Root h u = h

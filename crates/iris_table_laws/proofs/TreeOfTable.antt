@@ -26,15 +26,15 @@ use Rattle.iris_table_laws.proofs.TreapRows.{Some_row, Some_in, of_treap}
 use Rattle.iris_table_laws.proofs.NodesInTrees.{IsStored, Stands, below, below_stands, directory_stands, either_of, moved}
 
 -- something is there
-abbrev IsLive : Option Unfolded → Type 0
+abbrev pub IsLive : Option Unfolded → Type 0
 IsLive None = ⊥
 IsLive (Some w) = Unit {0}
 
-live_left : (a b : Option Unfolded) → IsLive a → IsLive (either a b)
+pub live_left : (a b : Option Unfolded) → IsLive a → IsLive (either a b)
 live_left None b h = absurd h
 live_left (Some w) b h = tt
 
-live_right : (a b : Option Unfolded) → IsLive b → IsLive (either a b)
+pub live_right : (a b : Option Unfolded) → IsLive b → IsLive (either a b)
 live_right None b h = h
 live_right (Some w) b h = tt
 
@@ -118,7 +118,7 @@ part_live id f (Part g l i) h = live_left (in_parts (Part g l i) id (versions id
 part_live id f (Entry i) h = absurd h
 part_live id f (Block g p) h = absurd h
 
-file_live : (w : Unfolded) (n : Name) (k : Nest) (id : ℕ) (f : File) → Holds w n k (nest (versions id f)) → IsLive (in_file n id f)
+pub file_live : (w : Unfolded) (n : Name) (k : Nest) (id : ℕ) (f : File) → Holds w n k (nest (versions id f)) → IsLive (in_file n id f)
 file_live w n k id f h = part_live id f n (side_live w n k id 16 0 (folded f.version 16 0) h)
 
 -- what stands inside the entries of rows is found inside the rows
@@ -138,7 +138,7 @@ inside_live order w n k (Row id name (Some f) inside next) h = elim h [
   | inr s ↦ live_right (in_file n id f) (inside_rows order n next) (inside_live order w n k next s)
 ]
 
-below_live : (order : List ℕ) (w : Unfolded) (n : Name) (k : Nest) (rows : Rows) → Holds w n k (nest (directory order rows)) → IsLive (below order n rows)
+pub below_live : (order : List ℕ) (w : Unfolded) (n : Name) (k : Nest) (rows : Rows) → Holds w n k (nest (directory order rows)) → IsLive (below order n rows)
 unfolding directory
 below_live order w n k rows h = elim (entries_live w n k (treap (beside (priority order) own_id) (owns order rows)) h) [
   | inl a ↦ live_left (in_directory n (directory order rows)) (inside_rows order n rows) a
@@ -180,7 +180,7 @@ root_parts w n k id inside h = elim h [
   | inr s ↦ elim s [ inl a ↦ absurd a | inr a ↦ elim a [ inl b ↦ absurd b | inr b ↦ inr b ] ]
 ]
 
-shown_live : (order : List ℕ) (t : Table) (w : Unfolded) (n : Name) (k : Nest) → Holds w n k (trees order t) → IsLive (shown order t n)
+pub shown_live : (order : List ℕ) (t : Table) (w : Unfolded) (n : Name) (k : Nest) → Holds w n k (trees order t) → IsLive (shown order t n)
 unfolding shown
 shown_live order t w n k h = elim h [
   | inl s ↦ elim (root_parts w n k 0 (directory order t.visible) s) [
@@ -204,7 +204,7 @@ shown_live order t w n k h = elim h [
 
 -- no name stands twice
 
-root_counts : (n : Name) (id : ℕ) → cond (same_name n (Entry (id_of id))) 1 0 ≤ cond (number n == id) 1 0
+pub root_counts : (n : Name) (id : ℕ) → cond (same_name n (Entry (id_of id))) 1 0 ≤ cond (number n == id) 1 0
 root_counts (Entry j) id = omega arith
 root_counts (Part g l i) id = omega arith
 root_counts (Block g p) id = omega arith
@@ -245,7 +245,7 @@ seen order t n w s e = by n (shown_stands order t n w s.hand e) where
   by (Part f l i) h = inr (held_seen order t (Part f l i) w h.0 h.1)
   by (Block f p) h = inl h
 
-stored_unnamed : (w : Unfolded) (n : Name) → IsStored w → node_name w ≡ Some n → ⊥
+pub stored_unnamed : (w : Unfolded) (n : Name) → IsStored w → node_name w ≡ Some n → ⊥
 stored_unnamed (Stored v b) n h e = cc
 stored_unnamed Absent n h e = h
 stored_unnamed (Folder id name less more inside) n h e = h
@@ -253,7 +253,7 @@ stored_unnamed (Leaf id name less more size counter versions) n h e = h
 stored_unnamed (Even v) n h e = h
 stored_unnamed (Split file level index low high) n h e = h
 
-stored_lowest : (w u : Unfolded) → IsStored w → IsAbove w u → ⊥
+pub stored_lowest : (w u : Unfolded) → IsStored w → IsAbove w u → ⊥
 stored_lowest (Stored v b) u h a = a
 stored_lowest Absent u h a = h
 stored_lowest (Folder id name less more inside) u h a = h
@@ -265,7 +265,7 @@ stored_lowest (Split file level index low high) u h a = h
 pub held_above : (order : List ℕ) (t : Table) (p : Name) (u w : Unfolded) → IsSound t → shown order t p ≡ Some u → IsAbove u w → Holds u p (inner u) (trees order t)
 held_above order t p u w s e a = elim (seen order t p u s e) [ inl h ↦ absurd (stored_lowest u w h a) | inr h ↦ h ]
 
-no_block : (w : Unfolded) (f : FileId) (p : ℕ) → node_name w ≡ Some (Block f p) → ⊥
+pub no_block : (w : Unfolded) (f : FileId) (p : ℕ) → node_name w ≡ Some (Block f p) → ⊥
 no_block (Stored v b) f p e = cc
 no_block Absent f p e = cc
 no_block (Folder id name less more inside) f p e = cc

@@ -1,9 +1,8 @@
 -- The laws of parents: what a sound table shows is a tree below each of its two roots.
 use Rattle.std.specs.Prelude.{◌≡◌, ◌⊎◌, ℕ, List, Some}
 use Rattle.iris_name.specs.declared.name.Name.{Name}
-use Rattle.iris_name.specs.declared.name.Name.TheVariants.{Entry}
-use Rattle.iris_node.specs.Trees.{IsNodeName, IsParent, IsTree}
-use Rattle.iris_node.specs.Unfolded.{Unfolded, id_of}
+use Rattle.iris_node.specs.Trees.{IsNodeName, IsParent, IsTree, IsRootName}
+use Rattle.iris_node.specs.Unfolded.{Unfolded}
 use Rattle.iris_rows.specs.Rows.{Table}
 use Rattle.iris_records.specs.Shown.{shown}
 use Rattle.iris_rows.specs.Sound.{IsSound}
@@ -11,10 +10,6 @@ use Rattle.iris_rows.specs.Sound.{IsSound}
 -- in a sound table each node stands under its own name, what stands below it is live, and it has one parent
 abbrev pub OneParent : Type 0
 OneParent = (order : List ℕ) (t : Table) → IsSound t → IsTree (shown order t)
-
--- the name of the visible root, or of the trash
-abbrev pub IsRootName : Name → Type 0
-IsRootName n = (n ≡ Entry (id_of 0)) ⊎ (n ≡ Entry (id_of 1))
 
 -- a live node that is no root has a parent
 abbrev pub NodesHaveParents : Type 0

@@ -13,8 +13,8 @@ use Rattle.iris_node.specs.declared.node.Body.TheVariants.{Dir, File}
 use Rattle.iris_node.specs.declared.node.Node.{Node}
 use Rattle.iris_node.specs.declared.node.Node.TheVariants as node
 use Rattle.iris_node.specs.Nodes.{name_of}
-use Rattle.iris_node.specs.Rules.{IsEntry, IsDir}
-use Rattle.iris_version_tree.specs.Needs.{IsFileNode, IsFileBody}
+use Rattle.iris_node.specs.Rules.{IsEntry, IsDir, IsFileBody}
+use Rattle.iris_version_tree.specs.Needs.{IsFileNode}
 use Rattle.iris_node.specs.Fields.{EntryFields, PartFields}
 use Rattle.iris_node.specs.Unfolded.{Unfolded, Absent, Folder, Leaf, Even, Split, Stored, id_of}
 use Rattle.iris_node.specs.Local.{local, entry_local}

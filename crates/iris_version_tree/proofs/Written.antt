@@ -29,7 +29,8 @@ use Rattle.iris_node.specs.Trees.{Shown, node_name, IsTree, IsParent, IsNodeName
 use Rattle.iris_cache.specs.Pictures.{Pictures, parent_after, parent_by, IsLike, Drafts, Holds, SideHolds, BodyHolds, WasHash}
 use Rattle.iris_cache.proofs.Lacking.{unknown}
 use Rattle.iris_version_tree.specs.Versions.{Versioned, HasVersions, Reversions, IsOfOtherFile, whole, reversioned, places}
-use Rattle.iris_version_tree.specs.Needs.{IsFileNode, IsFileBody, HasEntryWith}
+use Rattle.iris_version_tree.specs.Needs.{IsFileNode, HasEntryWith}
+use Rattle.iris_node.specs.Rules.{IsFileBody}
 use Rattle.iris_version_tree.specs.Sides.{entry_with, body_with, side_seen, side_of_body}
 use Rattle.iris_version_tree.specs.Reached.{IsTwo, IsDirectlyOver}
 use Rattle.iris_version_tree.specs.Ranges.{Within, IsPartWithin, Frame, Under, SideAt}

@@ -7,8 +7,6 @@ use Rattle.iris_name.specs.declared.note.Expect.{Expect}
 use Rattle.iris_node.specs.declared.node.Side.{Side}
 use Rattle.iris_node.specs.Fields.{EntryFields}
 use Rattle.iris_version_tree.specs.Sides.{entry_with}
-use Rattle.iris_node.specs.declared.node.Body.{Body}
-use Rattle.iris_node.specs.declared.node.Body.TheVariants.{Dir, File}
 use Rattle.iris_node.specs.declared.node.Node.{Node}
 use Rattle.iris_node.specs.declared.node.Node.TheVariants as node
 use Rattle.iris_shape.specs.FoldLaws.{IsUnder}
@@ -19,10 +17,7 @@ use Rattle.iris_cache.specs.Resident.{Resident, held_node}
 use Rattle.iris_cache.specs.Drafted.{Drafted, drafted, seen}
 use Rattle.iris_node.specs.Trees.{Shown}
 use Rattle.iris_version_tree.specs.Versions.{Versioned, places}
-
-abbrev pub IsFileBody : Body → Type 0
-IsFileBody (Dir top) = ⊥
-IsFileBody (File size counter versions) = Unit {0}
+use Rattle.iris_node.specs.Rules.{IsFileBody}
 
 abbrev pub IsFileNode : Option Node → Type 0
 IsFileNode None = ⊥

@@ -5,7 +5,8 @@ use Rattle.iris_name.specs.Paths.{names_of}
 use Rattle.iris_name.specs.declared.request.Request.{Request}
 use Rattle.iris_name.specs.declared.request.Request.TheVariants.{Mkdir, Create, Write, Read, Resize, Stat, List as ListNames, Rename, Remove}
 use Rattle.iris_rows.specs.Rows.{File}
-use Rattle.iris_rows.specs.Changes.{made, changed_by_names, stepped, table_verdict}
+use Rattle.iris_rows.specs.Changes.{made, stepped, table_verdict}
+use Rattle.iris_plain.specs.Steps.{by_names}
 use Rattle.iris_rows.specs.Places.{file_of}
 use Rattle.iris_table.specs.Served.{table_in}
 use Rattle.iris_table.specs.Replies.{TableReplies}
@@ -50,6 +51,6 @@ returns-in-Remove-clause-reply c = let P : Request → Type 0 = λ r. IfOk c.rem
 
 pub returns-in-Create-clause-step : goal.returns-in-Create-clause-step
 returns-in-Create-clause-step c = let t = table_in c.args.state.now in
-    let change = λ (f : File). cond (is_none (table_verdict t (Create c.in-Create.path))) (changed_by_names t (names_of c.in-Create.path) (λ names. made (Some f) names t)) t in
+    let change = λ (f : File). cond (is_none (table_verdict t (Create c.in-Create.path))) (by_names t (names_of c.in-Create.path) (λ names. made (Some f) names t)) t in
     let P : Request → Type 0 = λ r. OnOk c.make-in-Create.result (table_in c.make-in-Create.new.self ≡ stepped t r) in
     subst P (sym c.in-Create.is) (on_ok_weaker c.make-in-Create.result (λ (e : table_in c.make-in-Create.new.self ≡ change (file_of c.new.result)). e ∙ ap change c.new.ensures) c.make-in-Create.ensures.step)

@@ -2,10 +2,9 @@ use Rattle.std.proofs.Common.{sym, ◌∙◌, ap}
 use Rattle.iris_name.specs.Paths.{names_of}
 use Rattle.iris_plain.specs.Routes.{is_top, is_front}
 use Rattle.iris_plain.specs.Checks.{on_names, no_place, is_full, move_checks}
-use Rattle.iris_plain.proofs.StepLaws.{judged_err, top_len}
+use Rattle.iris_plain.proofs.StepLaws.{judged_err, top_len, next_err}
 use Rattle.iris_rows.specs.Changes.{seen_in}
 use Rattle.iris_table.specs.Served.{table_in}
-use Rattle.iris_table.proofs.ServedStep.{next_err}
 use Rattle.iris_table.proofs.state.State.rename.Goals as goal
 
 pub returns-in-Some-move_checks-clause-reply : goal.returns-in-Some-move_checks-clause-reply
