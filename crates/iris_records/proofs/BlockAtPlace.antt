@@ -13,7 +13,7 @@ use Rattle.iris_records.specs.declared.challenge.Met.{Met}
 use Rattle.iris_records.specs.declared.challenge.Met.TheVariants.{Block, Past}
 use Rattle.iris_rows.specs.declared.item.Item.{Item}
 use Rattle.iris_rows.specs.Items.{kept_file, IsForest, table_over}
-use Rattle.iris_rows.specs.declared.file.Place.{Place}
+use Rattle.iris_rows.specs.declared.places.Place.{Place}
 use Rattle.iris_rows.specs.Places.{Kept, IsKept, file_of, version_at, place_version}
 use Rattle.iris_rows.specs.Rows.{File}
 use Rattle.iris_records.specs.Strides.{own_file, files_of, blocks_of_all, WalkMeets}

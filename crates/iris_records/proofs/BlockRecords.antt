@@ -10,7 +10,7 @@ use Rattle.iris_node.specs.Unfolded.{Unfolded, Stored}
 use Rattle.iris_shape.specs.Local.{either}
 use Rattle.iris_shape.specs.Folds.{Fold, One, Two, folded}
 use Rattle.iris_shape.specs.FoldLaws.{IsFoldOf, Differ}
-use Rattle.iris_rows.specs.declared.file.Place.{Place}
+use Rattle.iris_rows.specs.declared.places.Place.{Place}
 use Rattle.iris_rows.specs.Places.{Kept, file_of, version_at, place_version, block_of}
 use Rattle.iris_records.specs.Records.{Records, looked, spelled}
 use Rattle.iris_records.specs.Shown.{in_blocks, block_of_place}

@@ -18,7 +18,7 @@ use Rattle.iris_node.specs.declared.node.Node.{Node}
 use Rattle.iris_node.specs.declared.node.Node.TheVariants.{Entry as Entry-node}
 use Rattle.iris_shape.specs.Local.{either}
 use Rattle.iris_shape.specs.declared.rows.Row.{Row}
-use Rattle.iris_records.specs.declared.records.Told.{Told}
+use Rattle.iris_records.specs.declared.entries.Told.{Told}
 use Rattle.iris_rows.specs.Rows.{File}
 use Rattle.iris_records.specs.Records.{Records, looked, spelled}
 use Rattle.iris_records.specs.Shown.{Own, entry_above, entry_in, in_directory}

@@ -5,7 +5,7 @@ use Rattle.std.proofs.lemmas.Bool.Decides.{nat_tests}
 use Rattle.std.proofs.lemmas.List.{append-nil}
 use Rattle.iris_shape.specs.declared.rows.Row.{Row as LevelRow}
 use Rattle.iris_rows.specs.declared.item.Item.{Item}
-use Rattle.iris_records.specs.declared.records.Told.{Told}
+use Rattle.iris_records.specs.declared.entries.Told.{Told}
 use Rattle.iris_rows.proofs.GrownRows.{row_of as grown_row, grown_higher, grown_deeper, grown_here}
 use Rattle.iris_rows.specs.Items.{grown, kept_file}
 use Rattle.iris_rows.specs.Rows.{End, Row}

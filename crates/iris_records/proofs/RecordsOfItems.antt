@@ -20,7 +20,7 @@ use Rattle.iris_node.specs.declared.node.Node.{Node}
 use Rattle.iris_node.specs.declared.node.Node.TheVariants.{Entry as Entry-node}
 use Rattle.iris_shape.specs.Local.{either}
 use Rattle.iris_rows.specs.declared.item.Item.{Item}
-use Rattle.iris_records.specs.declared.records.Told.{Told}
+use Rattle.iris_records.specs.declared.entries.Told.{Told}
 use Rattle.iris_rows.specs.Changes.{hex_digit, hex_digits, trash_name}
 use Rattle.iris_rows.specs.Items.{grown, kept_file, most_depth, IsForestTo, IsForest, table_over}
 use Rattle.iris_rows.specs.Places.{Kept, file_of}

@@ -9,8 +9,8 @@ use Rattle.iris_node.specs.declared.node.Body.TheVariants.{File as FileBody}
 use Rattle.iris_plain.specs.Checks.{blocks_of}
 use Rattle.iris_shape.specs.Local.{either}
 use Rattle.iris_shape.specs.Folds.{Fold, One, Two}
-use Rattle.iris_records.specs.declared.records.Told.{Told}
-use Rattle.iris_rows.specs.declared.file.Place.{Place}
+use Rattle.iris_records.specs.declared.entries.Told.{Told}
+use Rattle.iris_rows.specs.declared.places.Place.{Place}
 use Rattle.iris_rows.specs.Places.{page_block}
 use Rattle.iris_rows.specs.Rows.{File}
 use Rattle.iris_records.specs.Shown.{versions, block_of_place as block_at_place}

@@ -9,8 +9,8 @@ use Rattle.iris_shape.specs.Local.{either}
 use Rattle.iris_shape.specs.Treap.{Treap, Empty, Over}
 use Rattle.iris_shape.specs.declared.rows.Row.{Row}
 use Rattle.iris_rows.specs.declared.item.Item.{Item}
-use Rattle.iris_records.specs.declared.records.Told.{Told}
-use Rattle.iris_records.specs.declared.records.Level.{Level}
+use Rattle.iris_records.specs.declared.entries.Told.{Told}
+use Rattle.iris_records.specs.declared.entries.Level.{Level}
 use Rattle.iris_rows.specs.Items.{grown, kept_file}
 use Rattle.iris_rows.specs.Places.{Kept, file_of}
 use Rattle.iris_rows.specs.Rows.{File, Rows, End, Row as TableRow}

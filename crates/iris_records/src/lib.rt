@@ -2,6 +2,7 @@
 #![tactic(auto)]
 
 pub mod challenge;
+mod entries;
 mod parts;
 pub mod records;
 pub mod shelf;

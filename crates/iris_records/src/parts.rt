@@ -14,7 +14,8 @@ use crate::shelf::{Shelf, put_node};
 use iris_mac::{Keys, tag};
 use iris_name::{Bytes, FileId, Name, NoMemory, Page};
 use iris_node::{MOST_LEVEL, Node, PartNode, Side};
-use iris_rows::file::{FileRow, Place};
+use iris_rows::file::FileRow;
+use iris_rows::places::Place;
 use iris_shape::{Folded, fold};
 use std::alloc::Global;
 

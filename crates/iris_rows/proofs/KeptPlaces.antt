@@ -5,7 +5,7 @@ use Rattle.std.specs.List.{list_all}
 use Rattle.std.proofs.lemmas.Option.{slice_get_past, slice_get-get_or}
 use Rattle.std.proofs.lemmas.Bool.Decides.{nat_tests}
 use Rattle.std.specs.Prelude.{nat_lt, nat_le, min, replicate, slice_get}
-use Rattle.iris_rows.specs.declared.file.Place.{Place}
+use Rattle.iris_rows.specs.declared.places.Place.{Place}
 use Rattle.iris_rows.specs.Rows.{zeros}
 use Rattle.iris_rows.specs.Sound.{ArePages}
 use Rattle.iris_rows.specs.View.{joined}

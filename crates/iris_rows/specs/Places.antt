@@ -1,7 +1,7 @@
 -- The file of a row as the program keeps it: its places up to its number of blocks.
 use Rattle.std.specs.Prelude.{◌≡◌, ◌≤◌, ◌<◌, ◌+◌, ◌-◌, ◌/◌, ◌%◌, ◌==◌, ◌&&◌, ◌++◌, ℕ, List, length, take, replicate, slice_get, slice_set, Option, Some, None, if◌then◌else◌, nat_lt, nat_le}
 use Rattle.iris_plain.specs.Checks.{blocks_of}
-use Rattle.iris_rows.specs.declared.file.Place.{Place}
+use Rattle.iris_rows.specs.declared.places.Place.{Place}
 use Rattle.iris_rows.specs.Rows.{File, zeros}
 
 -- the length, the counter of writes and the places

@@ -6,3 +6,4 @@ pub mod digits;
 pub mod file;
 pub mod item;
 pub mod law;
+pub mod places;

@@ -14,8 +14,9 @@ ghost use Rattle.iris_table.specs.Served.{State, table_in, AreForests, IsWhole};
 ghost use Rattle.iris_records.specs.Records.{AreLive, root_hash};
 ghost use Rattle.iris_table.specs.Replies.{Told, is_left};
 
-use crate::moving::{empty, insert, reclaim, remove, rename, resize_at, write_at};
+use crate::moving::{empty, insert, remove, rename, resize_at, write_at};
 use crate::rows::{file_at, page, seen};
+use crate::trash::reclaim;
 use iris_mac::Keys;
 use iris_name::{Bytes, FileId, Hash32, Name, NoMemory, PlainError, Reply, Text};
 use iris_plain::Seen;

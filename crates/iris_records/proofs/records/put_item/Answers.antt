@@ -2,7 +2,7 @@ use Rattle.iris_records.proofs.RecordsOfItems.{dir_told, dir_inside}
 use Rattle.iris_records.proofs.PartRecords.{adds_same}
 use Rattle.std.proofs.Common.{ℕ, ap, ◌∙◌}
 use Rattle.iris_node.specs.declared.node.Body.TheVariants.{Dir}
-use Rattle.iris_records.specs.declared.records.Told.{Told}
+use Rattle.iris_records.specs.declared.entries.Told.{Told}
 use Rattle.iris_records.proofs.records.put_item.Goals as goal
 
 pub returns-clause-told : goal.returns-clause-told

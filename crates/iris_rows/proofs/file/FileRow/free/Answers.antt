@@ -1,5 +1,5 @@
 use Rattle.std.proofs.Common.{◌≡◌, List, length, ◌∙◌, ap}
-use Rattle.iris_rows.specs.declared.file.Place.{Place}
+use Rattle.iris_rows.specs.declared.places.Place.{Place}
 use Rattle.iris_rows.specs.Places.{Kept, file_of}
 use Rattle.iris_rows.specs.FileChanges.{freed}
 use Rattle.iris_rows.proofs.KeptPlaces.{sliced}

@@ -1,7 +1,7 @@
 use Rattle.std.proofs.Common.{◌==◌, List, ap, ◌∙◌}
 use Rattle.std.specs.List.{list_all}
 use Rattle.iris_plain.specs.Checks.{blocks_of}
-use Rattle.iris_rows.specs.declared.file.Place.{Place}
+use Rattle.iris_rows.specs.declared.places.Place.{Place}
 use Rattle.iris_rows.specs.FileChanges.{count_written}
 use Rattle.iris_rows.specs.Places.{Kept, file_of, version_at}
 use Rattle.iris_rows.proofs.KeptPlaces.{are_holes}

@@ -1,6 +1,6 @@
 use Rattle.std.proofs.Common.{ℕ, List, take, drop, ◌%◌, ◌/◌, ◌∙◌, ap}
 use Rattle.std.proofs.lemmas.Result.{IfOk-weaker}
-use Rattle.iris_rows.specs.declared.file.Place.{Place}
+use Rattle.iris_rows.specs.declared.places.Place.{Place}
 use Rattle.iris_rows.specs.View.{content, joined}
 use Rattle.iris_rows.specs.Places.{Kept, file_of, block_at}
 use Rattle.iris_rows.proofs.KeptPlaces.{pages_of}
