@@ -22,7 +22,7 @@ use iris_node::{Body, EntryNode, Link, Node};
 use iris_plain::checks::blocks_of;
 use iris_rows::file::FileRow;
 use iris_rows::item::Item;
-use sha2::Sha256;
+use sha2::{Digest, Sha256};
 use std::alloc::Global;
 
 // Puts the records of a file's blocks and parts, and answers what its entry says of it.
