@@ -93,6 +93,3 @@ pub trait Store {
         ensures traffic { traffic self.new ≡ after_discard (traffic self.old) name.now result }
         ensures cause { IsCaused (faults self.old) (faults self.new) result };
 }
-
-#[cfg(test)]
-mod tests;
