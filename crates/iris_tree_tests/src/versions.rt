@@ -26,6 +26,7 @@ fn cache_of_a_file(alloc: Global) -> Result<Cache, Fail> {
 }
 
 // Gives the places from a low one to before a high one a version.
+#[inline(never)]
 fn set(alloc: Global, cache: &mut Cache, low: u32, high: u32, version: u64) -> Result<(), Fail>
     requires some { low < high }
     requires within { high ≤ places }
@@ -39,6 +40,7 @@ fn set(alloc: Global, cache: &mut Cache, low: u32, high: u32, version: u64) -> R
 }
 
 // The version of a place, and the least place from it on that isn't a hole.
+#[inline(never)]
 fn look(alloc: Global, cache: &Cache, place: u32) -> Result<(u64, Option<u32>), Fail>
     requires { place < places }
 {
@@ -104,17 +106,9 @@ fn loses_two(alloc: Global) -> Result<bool, Fail> {
 // A file of 10,000 bytes that was written at once.
 #[test]
 fn writes_three_places(rt: HostRuntime) -> Result<(), Fail> {
-    let alloc = rt.alloc();
-    assert!(rt; begins_empty(alloc)?);
-    assert!(rt; has_three(alloc)?);
-    assert!(rt; loses_two(alloc)?);
-    Ok(())
-}
-
-fn write_row(alloc: Global, cache: &mut Cache) -> Result<(), Fail> {
-    for place in 0..65_536u32 {
-        set(alloc, cache, place, place + 1, place as u64 + 1)?;
-    }
+    assert!(rt; begins_empty(rt.alloc())?);
+    assert!(rt; has_three(rt.alloc())?);
+    assert!(rt; loses_two(rt.alloc())?);
     Ok(())
 }
 
@@ -130,26 +124,26 @@ fn other(alloc: Global, cache: &Cache) -> Result<Option<u32>, Fail> {
 
 fn row(alloc: Global) -> Result<Cache, Fail> {
     let mut cache = cache_of_a_file(alloc)?;
-    write_row(alloc, &mut cache)?;
+    for place in 0..65_536u32 {
+        set(alloc, &mut cache, place, place + 1, place as u64 + 1)?;
+    }
     Ok(cache)
 }
 
-fn has_row(alloc: Global) -> Result<bool, Fail> {
-    let cache = row(alloc)?;
-    Ok(cache.count() == 65_536 && other(alloc, &cache)?.is_none())
+fn has_row(alloc: Global, cache: &Cache) -> Result<bool, Fail> {
+    Ok(cache.count() == 65_536 && other(alloc, cache)?.is_none())
 }
 
-fn ends_in_one(alloc: Global) -> Result<bool, Fail> {
-    let mut cache = row(alloc)?;
-    set(alloc, &mut cache, 0, 65_536, 70_000)?;
-    Ok(cache.count() == 1 && side_in(&cache) == Some(Side::Fold(70_000)))
+fn ends_in_one(alloc: Global, cache: &mut Cache) -> Result<bool, Fail> {
+    set(alloc, cache, 0, 65_536, 70_000)?;
+    Ok(cache.count() == 1 && side_in(cache) == Some(Side::Fold(70_000)))
 }
 
 // Each place of a file gets a version of its own, then all of them one.
 #[test]
 fn writes_a_row_of_places(rt: HostRuntime) -> Result<(), Fail> {
-    let alloc = rt.alloc();
-    assert!(rt; has_row(alloc)?);
-    assert!(rt; ends_in_one(alloc)?);
+    let mut cache = row(rt.alloc())?;
+    assert!(rt; has_row(rt.alloc(), &cache)?);
+    assert!(rt; ends_in_one(rt.alloc(), &mut cache)?);
     Ok(())
 }
