@@ -17,7 +17,7 @@ use thiserror::Error;
 pub const MAX_CLIENT: u64 = 16;
 
 /// The requests of a script in order, each with the number of its client, from 1 to 16.
-#[derive(Debug, Drop)]
+#[derive(Drop)]
 pub struct Script {
     calls: Vec<(u32, Request)>,
 }

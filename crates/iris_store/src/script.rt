@@ -12,7 +12,7 @@ use std::alloc::Global;
 use std::marker::Model;
 
 /// A call of a store.
-#[derive(Clone, Copy, Debug)]
+#[derive(Clone, Copy)]
 pub enum Kind {
     Get,
     Put,
@@ -21,7 +21,7 @@ pub enum Kind {
 
 /// What a deed does in the store's place. `Absent` and `Give` are for gets alone: a deed of another call with one of them
 /// fits no call. Of more than `ANSWER_LEN` bytes `Give` gives the first ones.
-#[derive(Debug, Drop)]
+#[derive(Drop)]
 pub enum Act {
     Fail,
     Absent,
@@ -30,7 +30,7 @@ pub enum Act {
 
 /// One answer in the store's place: to the `nth` of the calls of that kind and, where one is given, of that name, counted
 /// from 1, or to each where `nth` is 0.
-#[derive(Debug, Drop)]
+#[derive(Drop)]
 pub struct Deed {
     pub call: Kind,
     pub name: Option<Name>,
