@@ -1,7 +1,6 @@
 -- Differences of bytes, folded into one.
-use Rattle.std.proofs.Common.{◌≡◌, ℕ, ◌+◌, ◌<◌, List, length, get_or, bit_or, bit_xor, arith, below_more, ap, sym, rules}
+use Rattle.std.proofs.Common.{◌≡◌, ℕ, ◌+◌, ◌<◌, List, get_or, bit_or, bit_xor, arith, below_more}
 use Rattle.std.proofs.lemmas.Nat.{le_or_l, le_or_r, and_le_l, and_le_r}
-use Rattle.std.proofs.lemmas.Grind.{same_number_lists}
 use Rattle.std.specs.Int.Bits.{xor_add_and, xor_self, or_zero_r}
 
 -- two lists are the same below an index
@@ -19,7 +18,9 @@ nothing_here seen a b none =
 pub same_below_more : (xs ys : List ℕ) (seen i : ℕ) → (seen ≡ 0 → AreSameBelow xs ys i)
     → bit_or seen (bit_xor (get_or ys i 0) (get_or xs i 0)) ≡ 0 → AreSameBelow xs ys (i + 1)
 same_below_more xs ys seen i before none =
-    below_more _ _ (before (nothing_before seen _ none)) (nothing_here seen (get_or ys i 0) (get_or xs i 0) none)
+    below_more _ _
+    (before (nothing_before seen _ none))
+    (nothing_here seen (get_or ys i 0) (get_or xs i 0) none)
 
 -- where two bytes are the same, folding them in leaves nothing as it is
 pub nothing_more : (seen a b : ℕ) → seen ≡ 0 → b ≡ a → bit_or seen (bit_xor a b) ≡ 0
