@@ -21,5 +21,3 @@ pub use laws::{
     alike_keeps, apply_keeps, apply_marks, evict_keeps, insert_keeps, lacks, set_hash_keeps,
 };
 
-#[cfg(test)]
-mod tests;

@@ -42,6 +42,3 @@ pub trait Log {
     /// Where the notes are told, `count` is their number.
     ghost counted: { (log : Self) → HasCount (notes log) (count log) };
 }
-
-#[cfg(test)]
-mod tests;

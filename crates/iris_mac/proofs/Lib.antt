@@ -1,2 +1,3 @@
+mod Differences
 mod KeyBlocks
 mod Pieces

@@ -11,6 +11,3 @@ pub use block::{RECORD_LEN, passes, tag};
 pub use code::hmac;
 pub use keys::Keys;
 pub use order::priority;
-
-#[cfg(test)]
-mod tests;

@@ -16,6 +16,3 @@ pub use path::{Path, PathError};
 pub use request::{Cause, PlainError, Reply, Request};
 pub use text::{Text, Texts};
 pub use want::{Failed, NoMemory};
-
-#[cfg(test)]
-mod tests;

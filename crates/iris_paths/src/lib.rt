@@ -12,5 +12,3 @@ pub use moving::plan_rename;
 pub use reading::{plan_list, plan_stat};
 pub use resolving::{Found, resolve};
 
-#[cfg(test)]
-mod tests;

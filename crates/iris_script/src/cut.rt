@@ -62,20 +62,3 @@ pub fn split_words<'a>(alloc: Global, line: &'a [u8]) -> Result<Vec<&'a [u8]>, N
     let words = parts(alloc, line)?;
     Ok(words)
 }
-
-#[cfg(test)]
-mod tests {
-    use super::*;
-    use std::test::Fail;
-
-    // A blank more or less, which the definition would share.
-    #[test]
-    fn splits_words(rt: HostRuntime) -> Result<(), Fail> {
-        let words = split_words(rt.alloc(), b"1 read  /a")?;
-        assert_eq!(rt; words.len(), 4);
-        assert_eq!(rt; words[1], b"read".as_slice());
-        assert_eq!(rt; words[2], b"".as_slice());
-        assert_eq!(rt; strip_return(b"a\r\r"), b"a\r".as_slice());
-        Ok(())
-    }
-}

@@ -33,25 +33,3 @@ pub fn read_bytes(alloc: Global, word: &[u8]) -> Result<Option<Bytes>, NoMemory>
         read_hex(alloc, word)
     }
 }
-
-#[cfg(test)]
-mod tests {
-    use super::*;
-    use std::test::Fail;
-
-    // A digit or a half byte more or less.
-    #[test]
-    fn reads_both_cases(rt: HostRuntime) -> Result<(), Fail> {
-        let alloc = rt.alloc();
-        let bytes = read_hex(alloc, b"6bC0fF")?.ok_or("digits")?;
-        assert_eq!(rt; bytes.as_slice(), [0x6bu8, 0xc0, 0xff].as_slice());
-        assert!(rt; read_hex(alloc, b"")?.is_none());
-        assert!(rt; read_hex(alloc, b"6bc")?.is_none());
-        assert!(rt; read_hex(alloc, b"0g")?.is_none());
-        assert!(rt; read_hex(alloc, b"-")?.is_none());
-        assert!(rt; read_bytes(alloc, b"-")?.is_some());
-        assert!(rt; read_bytes(alloc, b"6b")?.is_some());
-        assert!(rt; read_bytes(alloc, b"")?.is_none());
-        Ok(())
-    }
-}

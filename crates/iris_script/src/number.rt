@@ -23,21 +23,3 @@ pub fn read_number(word: &[u8]) -> Option<u64>
         None
     }
 }
-
-#[cfg(test)]
-mod tests {
-    use super::*;
-
-    // Another spelling of a number, or a number past 64 bits.
-    #[test]
-    fn reads_one_spelling(rt: HostRuntime) {
-        assert_eq!(rt; read_number(b"0"), Some(0));
-        assert_eq!(rt; read_number(b"65536"), Some(65536));
-        assert_eq!(rt; read_number(b"18446744073709551615"), Some(u64::MAX));
-        assert_eq!(rt; read_number(b"18446744073709551616"), None);
-        assert_eq!(rt; read_number(b""), None);
-        assert_eq!(rt; read_number(b"00"), None);
-        assert_eq!(rt; read_number(b"+1"), None);
-        assert_eq!(rt; read_number(b"1\xb2"), None);
-    }
-}

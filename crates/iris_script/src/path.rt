@@ -63,32 +63,3 @@ pub fn read_path(alloc: Global, word: &[u8]) -> Result<Option<Text>, NoMemory>
     let text = String::from_str(alloc, text)?;
     Ok(Some(Text::of(text)))
 }
-
-#[cfg(test)]
-mod tests {
-    use super::*;
-    use std::process::Abort;
-    use std::test::Fail;
-
-    fn expect_path(rt: &impl Abort, alloc: Global, word: &[u8], path: &str) -> Result<(), Fail> {
-        let read = read_path(alloc, word)?.ok_or("a path word")?;
-        assert_eq!(rt; read.as_str(), path);
-        Ok(())
-    }
-
-    // A byte that needs no escape, or one that does.
-    #[test]
-    fn reads_path_words(rt: HostRuntime) -> Result<(), Fail> {
-        let alloc = rt.alloc();
-        expect_path(&rt, alloc, b"/docs/a.txt", "/docs/a.txt")?;
-        expect_path(&rt, alloc, b"/a%20b%2F%25%0a", "/a b/%\n")?;
-        expect_path(&rt, alloc, b"/%c3%bC\xc3\xbc", "/üü")?;
-        assert!(rt; read_path(alloc, b"")?.is_none());
-        assert!(rt; read_path(alloc, b"/a b")?.is_none());
-        assert!(rt; read_path(alloc, b"/\x7f")?.is_none());
-        assert!(rt; read_path(alloc, b"/%2")?.is_none());
-        assert!(rt; read_path(alloc, b"/%g0")?.is_none());
-        assert!(rt; read_path(alloc, b"/\xc3")?.is_none());
-        Ok(())
-    }
-}

@@ -62,7 +62,7 @@ impl From<NoMemory> for StoreError {
 }
 
 /// A call of a store that it answered, other than by want of memory.
-#[derive(Debug, PartialEq, Drop)]
+#[derive(PartialEq, Drop)]
 pub enum Transfer {
     Got { name: Name, answer: Answer },
     Put { name: Name, bytes: Bytes, ok: bool },
@@ -93,6 +93,3 @@ pub trait Store {
         ensures traffic { traffic self.new ≡ after_discard (traffic self.old) name.now result }
         ensures cause { IsCaused (faults self.old) (faults self.new) result };
 }
-
-#[cfg(test)]
-mod tests;

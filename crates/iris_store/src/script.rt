@@ -12,7 +12,7 @@ use std::alloc::Global;
 use std::marker::Model;
 
 /// A call of a store.
-#[derive(Clone, Copy, Debug)]
+#[derive(Clone, Copy)]
 pub enum Kind {
     Get,
     Put,
@@ -21,7 +21,7 @@ pub enum Kind {
 
 /// What a deed does in the store's place. `Absent` and `Give` are for gets alone: a deed of another call with one of them
 /// fits no call. Of more than `ANSWER_LEN` bytes `Give` gives the first ones.
-#[derive(Debug, Drop)]
+#[derive(Drop)]
 pub enum Act {
     Fail,
     Absent,
@@ -30,7 +30,7 @@ pub enum Act {
 
 /// One answer in the store's place: to the `nth` of the calls of that kind and, where one is given, of that name, counted
 /// from 1, or to each where `nth` is 0.
-#[derive(Debug, Drop)]
+#[derive(Drop)]
 pub struct Deed {
     pub call: Kind,
     pub name: Option<Name>,
@@ -246,53 +246,5 @@ impl<S: Store> Store for ScriptStore<S> {
             self.count(Kind::Discard, name);
         }
         answer
-    }
-}
-
-#[cfg(test)]
-mod tests {
-    use super::*;
-    use crate::MemStore;
-    use iris_name::FileId;
-    use std::test::Fail;
-
-    fn deed(call: Kind, name: Option<Name>, nth: u32, act: Act) -> Deed {
-        Deed {
-            call,
-            name,
-            nth,
-            act,
-        }
-    }
-
-    // A deed that counts only what it answers, a spent one that answers again, an answer to a put.
-    #[test]
-    fn deeds_answer_in_turn(rt: HostRuntime) -> Result<(), Fail> {
-        let alloc = rt.alloc();
-        let one = Name::Entry { id: FileId(1) };
-        let two = Name::Entry { id: FileId(2) };
-        let long = Bytes::of(vec![in alloc; 7u8; 9000]?);
-        let deeds = vec![in alloc;
-            deed(Kind::Get, None, 2, Act::Absent),
-            deed(Kind::Get, Some(one), 0, Act::Give(long)),
-            deed(Kind::Get, None, 2, Act::Fail),
-            deed(Kind::Get, None, 4, Act::Fail),
-            deed(Kind::Put, Some(one), 1, Act::Fail),
-            deed(Kind::Put, None, 0, Act::Absent),
-            deed(Kind::Discard, None, 2, Act::Fail),
-        ]?;
-        let mut store = ScriptStore::new(MemStore::new(alloc, Vec::new(alloc)), deeds);
-        store.put(alloc, &two, b"abc")?;
-        assert!(rt; store.put(alloc, &one, b"abc") == Err(StoreError::Failed));
-        let given = store.get(alloc, &one)?;
-        assert_eq!(rt; given.map(|bytes| bytes.as_slice().len()), Some(8192));
-        assert!(rt; store.get(alloc, &two)? == None);
-        assert!(rt; store.get(alloc, &two)? == Some(Bytes::of(b"abc".to_vec(alloc)?)));
-        assert!(rt; store.get(alloc, &two) == Err(StoreError::Failed));
-        store.discard(alloc, &one)?;
-        assert!(rt; store.discard(alloc, &two) == Err(StoreError::Failed));
-        store.discard(alloc, &two)?;
-        assert!(rt; store.get(alloc, &two)? == None);
-        Ok(())
     }
 }

@@ -3,7 +3,7 @@
 ghost use Rattle.std.specs.Prelude.{◌≤◌, ◌<◌};
 
 use crate::dice::Dice;
-use crate::filling::{ENTRY, FILE, cache_of, is_recorded, record_of, set};
+use crate::filling::{ENTRY, cache_of, is_recorded, record_of, set, side_in};
 use crate::keeping::{let_go, parts_at, settle_parts};
 use iris_cache::Cache;
 use iris_mac::Keys;
@@ -59,16 +59,6 @@ fn file_in(alloc: Global, records: &[(Name, Bytes)]) -> Result<(u64, Side), Fail
             Body::Dir { .. } => Err("a directory".into()),
         },
         Node::Part(_) => Err("a part".into()),
-    }
-}
-
-fn side_in(cache: &Cache) -> Option<Side> {
-    match &cache.find(&ENTRY)?.node {
-        Node::Entry(entry) => match entry.body {
-            Body::File { versions, .. } => Some(versions),
-            Body::Dir { .. } => None,
-        },
-        Node::Part(_) => None,
     }
 }
 

@@ -5,7 +5,7 @@ ghost use Rattle.iris_version_tree.specs.Versions.{places};
 
 use iris_cache::{Cache, Draft, Short};
 use iris_name::{Bytes, Expect, FileId, Hash32, Name};
-use iris_node::{Node, decode, encode, hash_of};
+use iris_node::{Body, Node, Side, decode, encode, hash_of};
 use iris_version_tree::{is_file, plan_set};
 use std::alloc::Global;
 use std::test::Fail;
@@ -51,14 +51,8 @@ fn over(name: &Name) -> Option<Name> {
     }
 }
 
-// Takes in the node of a record.
-pub(crate) fn take_in(
-    alloc: Global,
-    cache: &mut Cache,
-    parent: Option<Name>,
-    record: &[u8],
-) -> Result<(), Fail> {
-    let node = decode(alloc, record)?.ok_or("a node")?;
+// Takes in a node that isn't resident.
+pub(crate) fn put_in(cache: &mut Cache, parent: Option<Name>, node: Node) -> Result<(), Fail> {
     let name = node.name();
     if cache.find(&name).is_some() {
         return Err("it is resident".into());
@@ -68,12 +62,34 @@ pub(crate) fn take_in(
     Ok(())
 }
 
+// Takes in the node of a record.
+pub(crate) fn take_in(
+    alloc: Global,
+    cache: &mut Cache,
+    parent: Option<Name>,
+    record: &[u8],
+) -> Result<(), Fail> {
+    let node = decode(alloc, record)?.ok_or("a node")?;
+    put_in(cache, parent, node)
+}
+
 // A cache that has a file's entry alone.
 pub(crate) fn cache_of(alloc: Global, records: &[(Name, Bytes)]) -> Result<Cache, Fail> {
     let record = record_of(records, &ENTRY).ok_or("the entry")?;
     let mut cache = Cache::new(alloc);
     take_in(alloc, &mut cache, None, record)?;
     Ok(cache)
+}
+
+// The side of all versions in the file's entry.
+pub(crate) fn side_in(cache: &Cache) -> Option<Side> {
+    match &cache.find(&ENTRY)?.node {
+        Node::Entry(entry) => match entry.body {
+            Body::File { versions, .. } => Some(versions),
+            Body::Dir { .. } => None,
+        },
+        Node::Part(_) => None,
+    }
 }
 
 // Takes in what a plan lacks: a record with the hash that it expects, whose parent is resident.

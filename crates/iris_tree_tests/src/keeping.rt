@@ -6,17 +6,28 @@ use iris_name::Name;
 use std::alloc::Global;
 use std::test::Fail;
 
-// What goes out for a node comes back, and leaves it clean.
-fn clean(cache: &mut Cache, name: &Name) -> Result<(), Fail> {
+// A transfer of a node begins.
+pub(crate) fn send_out(cache: &mut Cache, name: &Name) -> Result<(), Fail> {
     match cache.find(name) {
         Some(held) if held.out.is_none() => cache.begin(name, 0),
         _ => return Err("something is out for it".into()),
     }
+    Ok(())
+}
+
+// The transfer of a node ends well.
+pub(crate) fn take_back(cache: &mut Cache, name: &Name) -> Result<(), Fail> {
     match cache.find(name) {
         Some(held) if held.out.is_some() => cache.finish(name, true),
         _ => return Err("nothing is out for it".into()),
     }
     Ok(())
+}
+
+// What goes out for a node comes back, and leaves it clean.
+fn clean(cache: &mut Cache, name: &Name) -> Result<(), Fail> {
+    send_out(cache, name)?;
+    take_back(cache, name)
 }
 
 // Settles a node, and cleans it.

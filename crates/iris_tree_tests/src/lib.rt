@@ -1,10 +1,16 @@
-//! Plans over a cache beside the table of rows: tests, and how a node is settled in them.
+//! Plans over a cache, also beside the table of rows: tests, and how a node is settled in them.
 #![tactic(auto)]
 
 #[cfg(test)]
 mod beside;
 #[cfg(test)]
+mod crowds;
+#[cfg(test)]
+mod cuts;
+#[cfg(test)]
 mod dice;
+#[cfg(test)]
+mod directories;
 #[cfg(test)]
 mod entries;
 #[cfg(test)]
@@ -12,5 +18,11 @@ mod filling;
 #[cfg(test)]
 mod keeping;
 #[cfg(test)]
+mod marking;
+#[cfg(test)]
 mod paths_beside;
+#[cfg(test)]
+mod planning;
 pub mod settling;
+#[cfg(test)]
+mod versions;

@@ -2,6 +2,7 @@
 
 use crate::dice::Dice;
 use crate::entries::{are_recorded, fetch_entry, let_some_go, settle_all};
+use crate::planning::land;
 use iris_cache::{Cache, Draft, Short};
 use iris_dirtree::plan_place;
 use iris_mac::Keys;
@@ -230,13 +231,6 @@ fn planned(
         Request::Probe { at } => probe(draft, beside, *at),
         _ => Err(Short::NoMemory),
     }
-}
-
-// Makes a draft.
-fn land(cache: &mut Cache, draft: Draft) -> Result<(), Fail> {
-    cache.room_for(&draft)?;
-    cache.apply(draft);
-    Ok(())
 }
 
 // Plans a request, and makes the plan where nothing is lacking.

@@ -10,5 +10,3 @@ pub use reading::{first_written, version_at};
 pub use setting::plan_set;
 pub use walk::{file_entry, is_file};
 
-#[cfg(test)]
-mod tests;
