@@ -29,12 +29,12 @@ pub record IsWanted (old new : Shown) (c : Resident) (n : Name) (x : Expect) : T
   pub expected : IsRootName n ⊎ IsExpected x (old n)
   pub parent : IsRootName n ⊎ ((p : Name) → IsParent old p n → IsSome (held_node c p))
 
--- A plan lacks a name that neither draft nor cache has. In each two tables that are pictured with what is at w,
--- the plan reaches the name, and it is wanted.
-pub record Lacks {W : Type 0} (pictured : W → Shown → Shown → Type 0) (reached : W → Shown → Name → Type 0) (d : Drafted) (c : Resident) (n : Name) (x : Expect) : Type 0 where
+-- A plan lacks a name that neither draft nor cache has. `pictured` says of which tables before and after it speaks,
+-- with what stands in them; in each, the plan reaches the name, and it is wanted.
+pub record Lacks {W : Type 0} (pictured : Shown → Shown → W → Type 0) (reached : Shown → W → Name → Type 0) (d : Drafted) (c : Resident) (n : Name) (x : Expect) : Type 0 where
   pub unset : drafted d n ≡ None
   pub absent : held_node c n ≡ None
-  pub needed : (w : W) (old new : Shown) → pictured w old new → reached w new n × IsWanted old new c n x
+  pub needed : (old new : Shown) (stands : W) → pictured old new stands → reached new stands n × IsWanted old new c n x
 
 -- why a plan that takes no memory stops: at a cache miss
 abbrev pub StopsOnNeed : (Name → Expect → Type 0) → Short → Type 0
