@@ -63,7 +63,7 @@ there o x e = let P : Option Node → Type 0 = λ o. IsSome o in subst P (sym e)
 live : (o : Option Unfolded) (x : Unfolded) → o ≡ Some x → IsSome o
 live o x e = let P : Option Unfolded → Type 0 = λ o. IsSome o in subst P (sym e) refl
 
-expected_by : (o : Option Unfolded) (h : Hash32) → IsSome o → IsHashOf o h → IsExpected (Hash h) o
+pub expected_by : (o : Option Unfolded) (h : Hash32) → IsSome o → IsHashOf o h → IsExpected (Hash h) o
 expected_by None h live is = absurd (let e : false ≡ true = live in cc)
 expected_by (Some u) h live is = is u refl
 

@@ -10,6 +10,7 @@ use Rattle.iris_node.specs.Trees.{Shown, node_name, IsNodeName, IsParent}
 use Rattle.iris_node.specs.Unfolded.{Unfolded, Absent, Folder, Leaf, Even, Split, Stored, id_of, blocks}
 use Rattle.iris_shape.specs.Order.{beside, Rising, Distinct}
 use Rattle.iris_shape.specs.Treap.{Treap, Empty, Over, treap, Each}
+use Rattle.iris_cache.specs.Needs.{IsRootName}
 
 -- what a row is by itself: a directory with the treap inside it, or a file
 pub data Content : Type 0 where
@@ -104,10 +105,6 @@ pub record Rearranges (t u : Shown) (key : List ℕ) (dir : FileId) (before afte
 -- counts of blocks have 64 bits
 abbrev pub IsCountable : Shown → Type 0
 IsCountable t = (n : Name) (u : Unfolded) → t n ≡ Some u → blocks u < 2 ^ 64
-
--- the name of the visible root, or of the trash
-abbrev pub IsRootName : Name → Type 0
-IsRootName n = (n ≡ name.Entry (id_of 0)) ⊎ (n ≡ name.Entry (id_of 1))
 
 -- a live node that is no root has a parent
 abbrev pub IsRooted : Shown → Type 0
