@@ -82,7 +82,7 @@ module _ (old new : Shown) (key : List ℕ) (dir : FileId) (n : List ℕ) (d : D
   row_is row among named =
       let A : List Row → Type 0 = IsAmong row in
       let there = subst A (rows_treap (up key) all) among in
-      only (λ r. row ≡ r) (λ r. Rattle.iris_dirtree.specs.Ways.before n r) (has_name n) all x (named_parts n all listed.rows_are.rising) (row_any (λ r. (has_name n r ≡ true) × (row ≡ r)) all row there (named, refl)) x_in (is_it n x x_name)
+      only (λ r. row ≡ r) (λ r. Rattle.iris_dirtree.specs.Ways.is_row_before n r) (has_name n) all x (named_parts n all listed.rows_are.rising) (row_any (λ r. (has_name n r ≡ true) × (row ≡ r)) all row there (named, refl)) x_in (is_it n x x_name)
 
   pub row_taken : (t : Treap Row) (kept : List Crumb) (e : EntryFields) → t ≡ treap (up key) all → FoundRow old new c t d (up key) n kept e → IsRowNode x e × HoldsTrue old c e
   row_taken t kept e is found =
@@ -131,7 +131,7 @@ module _ (old new : Shown) (key : List ℕ) (dir : FileId) (n : List ℕ) (d : D
     went_one m k g =
         let P : List Row → Type 0 = λ xs. IsRowName xs m in
         let b = gone_one (λ (r : Row). m ≡ entry_name r) (has_name n) all (subst P (rows_treap (up key) all) k) (λ j. g (subst P (sym (rows_treap (up key) (rows_without (has_name n) all))) j)) in
-        only (λ (r : Row). m ≡ entry_name r) (λ r. Rattle.iris_dirtree.specs.Ways.before n r) (has_name n) all x (named_parts n all listed.rows_are.rising) b x_in (is_it n x x_name) ∙ sym taken_id
+        only (λ (r : Row). m ≡ entry_name r) (λ r. Rattle.iris_dirtree.specs.Ways.is_row_before n r) (has_name n) all x (named_parts n all listed.rows_are.rising) b x_in (is_it n x x_name) ∙ sym taken_id
 
     dir_outside : Outside (name.Entry dir) (treap (up key) (rows_without (has_name n) all))
     dir_outside = outside_none (name.Entry dir) (treap (up key) (rows_without (has_name n) all)) (λ k. not_dir (name.Entry dir) (after_before (name.Entry dir) k) refl)
