@@ -15,7 +15,7 @@ use Rattle.iris_node.specs.Spelling.{spelling}
 use Rattle.iris_node.specs.Unfolded.{Unfolded, Absent, Folder, Leaf, Even, Split, Stored, hash, link_to, node_of, blocks, spelled_node as node_spelled}
 use Rattle.iris_node.specs.declared.node.Link.{Link}
 use Rattle.iris_node.specs.declared.node.Node.{Node}
-use Rattle.iris_node.specs.declared.node.Node.TheVariants.{Entry-node}
+use Rattle.iris_node.specs.declared.node.Node.TheVariants.{Entry as Entry-node}
 use Rattle.iris_shape.specs.Local.{either}
 use Rattle.iris_shape.specs.declared.rows.Row.{Row}
 use Rattle.iris_table.specs.declared.records.Told.{Told}

@@ -46,7 +46,7 @@ IsHalved level (Two low high) = (1 ≤ level) × AreUnequalFolds low high × IsH
 
 -- the block of a kept place, none where it is a hole
 abbrev pub kept_block : Place → Option Unfolded
-kept_block place = if place.version == 0 then None else Some (Stored place.version (block_in place.page))
+kept_block place = if place.version == 0 then None else Some (Stored place.version (page_block place.page))
 
 -- what a name stands for at one place of a file
 abbrev pub at_place : Name → ℕ → ℕ → Place → Option Unfolded
