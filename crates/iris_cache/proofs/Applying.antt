@@ -153,6 +153,10 @@ unsettled-not : {P : Type 0} (h g : Held) → KeepsMarks g h → g.settled ≡ f
 unsettled-not h g keeps un settled = absurd (true≢false (sym settled ∙ ap (λ (x : Held). x.settled) keeps ∙ un))
 
 module _ (old new : Shown) (d : Drafted) (c e : Resident) (pic : Drafts old new d c) (was : IsTree old) (is : IsTree new) (fo : AreFormed old) (fn : AreFormed new) (lands : (q : Name) → Lands d c e q) where
+  -- nothing is detached
+  is-tied : (n p : Name) (node : Node) → seen d c n ≡ Some node → parent_after d c n ≡ Some p → IsParent new p n
+  is-tied n p node sees up = elim (pic.tied n p node sees up) [ inl i ↦ i | inr below ↦ absurd below ]
+
   abbrev marked : Name → Bool
   marked n = (lands n).marked
 
@@ -274,7 +278,7 @@ module _ (old new : Shown) (d : Drafted) (c e : Resident) (pic : Drafts old new 
       let b = settled-before p g at-p s in
       let up : parent_after d c q ≡ Some p = a.parent ∙ of in
       let r = unmarked-stays q h at (up-one q p up b.unmarked) in
-      let i = pic.tied q p h.node a.node up in
+      let i = is-tied q p h.node a.node up in
       let j : IsParent old p q = record { parent = i.parent; child = i.child; live = same-at p g.node i.parent z.node b.unmarked i.live; above = i.above; named = i.named } in
       let k = pic.before.parents q p r.0 r.1 j in
       r.2 ∙ pic.before.rising q p r.0 b.held-before r.1 k.0 b.at b.settled
@@ -284,7 +288,7 @@ module _ (old new : Shown) (d : Drafted) (c e : Resident) (pic : Drafts old new 
     nodes = λ n h at. pic.nodes n h.node ((after-of n h at).node);
     hashes = λ n m h x at holds s. hash-after n m h.node x (held_node e m) refl ((after-of n h at).node) holds s;
     parents = λ n p h at parent. let a = after-of n h at in let r = pic.parents n p h.node a.node parent in (sym a.parent ∙ r.0, stays-of p r.1);
-    tied = λ n p h at of. let a = after-of n h at in pic.tied n p h.node a.node (a.parent ∙ of);
+    tied = λ n p h at of. let a = after-of n h at in is-tied n p h.node a.node (a.parent ∙ of);
     rising = rising-after;
   }
 
@@ -297,7 +301,7 @@ module _ (old new : Shown) (d : Drafted) (c e : Resident) (pic : Drafts old new 
   below-next : (n : Name) (k : ℕ) → IsBelow n k → (m : Name) (node : Node) (o : Option Name) → parent_after d c m ≡ o → over (parent_after d c) k o n ≡ true → seen d c m ≡ Some node → new n ≡ old n → new m ≡ old m
   below-next n k ih m node None at h sees same = absurd (true≢false (sym h ∙ above-none (parent_after d c) k n))
   below-next n k ih m node (Some p) at h sees same =
-      let i = pic.tied m p node sees at in
+      let i = is-tied m p node sees at in
       let s = some-node (seen d c p) ((pic.parents m p node sees i).1) in
       let q : new p ≡ old p = ih p s.0 h s.1 same in
       is.below p m i.parent i.child i.live i.above i.named ∙ sym (was.below p m i.parent i.child (sym q ∙ i.live) i.above i.named)

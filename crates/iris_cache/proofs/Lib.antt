@@ -9,5 +9,6 @@ pub mod Children
 pub mod Sparing
 pub mod Applying
 pub mod Lacking
+pub mod EmptyDraft
 pub mod Keeping
 pub mod Settling

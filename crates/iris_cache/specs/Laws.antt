@@ -11,9 +11,9 @@ use Rattle.iris_cache.specs.Applied.{Lands, arrived_node}
 use Rattle.iris_cache.specs.Held.{points, kid_less, kid_more, moved_node, newcomer_node, settled_so, stay_of}
 use Rattle.iris_cache.specs.Rehash.{whole_part, with_hash}
 use Rattle.iris_cache.specs.Resident.{Resident, held_node, map_if, resident_parent, IsSound}
-use Rattle.iris_cache.specs.Drafted.{Drafted, known, seen}
+use Rattle.iris_cache.specs.Drafted.{Drafted, drafted, known, seen}
 use Rattle.iris_node.specs.Trees.{Shown, IsTree, IsParent, IsNodeName, node_name}
-use Rattle.iris_cache.specs.Pictures.{Holds, IsHashOf, IsLike, Pictures, Drafts}
+use Rattle.iris_cache.specs.Pictures.{Holds, IsHashOf, IsLike, Pictures, Detached, DraftsBeside, Drafts}
 
 -- what a link leads to: an entry, or nothing
 abbrev pub IsLinked : Unfolded → Type 0
@@ -63,10 +63,14 @@ IsApart (Stored version bytes) = Unit {0}
 abbrev pub HaveApart : Shown → Type 0
 HaveApart t = (n : Name) (u : Unfolded) → t n ≡ Some u → IsApart u
 
--- What a plan lacks, where it is a child of a node that is seen: live before, with that hash, and its parent is resident.
-abbrev pub Lacks : Type 0
-Lacks = (old new : Shown) (d : Drafted) (c : Resident) (n m : Name) (node : Node) (x : Hash32)
-    → Drafts old new d c → IsTree old → IsTree new → seen d c n ≡ Some node → Holds node m x → IsParent new n m → known d c m ≡ None
+-- A draft without a change, over a cache that pictures a formed tree, pictures that tree.
+abbrev pub DraftBegins : Type 0
+DraftBegins = (t : Shown) (d : Drafted) (c : Resident) → Pictures t c → IsTree t → AreFormed t → ((n : Name) → drafted d n ≡ None) → Drafts t t d c
+
+-- A missing child of a node that is seen was live before, with the hash that the node holds of it, and its parent is resident.
+abbrev pub ChildWasLive : Type 0
+ChildWasLive = (old new : Shown) (detached : Option Detached) (d : Drafted) (c : Resident) (n m : Name) (node : Node) (x : Hash32)
+    → DraftsBeside old new detached d c → IsTree old → IsTree new → seen d c n ≡ Some node → Holds node m x → IsParent new n m → known d c m ≡ None
     → IsSome (old m) × (IsHashOf (old m) x × ((p : Name) → IsParent old p m → IsSome (held_node c p)))
 
 -- A cache goes on picturing a table where a settled node goes that nothing keeps.

@@ -82,8 +82,23 @@ parent_by None h = parent_in h
 abbrev pub parent_after : Drafted → Resident → Name → Option Name
 parent_after d c n = parent_by (drafted d n) (held_node c n)
 
--- A cache pictures the table before, and with a draft over it the table after.
-pub record Drafts (old new : Shown) (d : Drafted) (c : Resident) : Type 0 where
+-- A subtree that was taken out of the tree (detached), so that its topmost entry is no node: that entry's name, and the name of the node directly below it.
+pub record Detached : Type 0 where
+  pub entry : Name
+  pub below : Option Name
+
+-- the second name is that of the node directly below the detached entry, if there is one, and the first is the entry's
+abbrev pub IsBelowDetached : Option Detached → Name → Name → Type 0
+IsBelowDetached None p n = ⊥
+IsBelowDetached (Some x) p n = (p ≡ x.entry) × (x.below ≡ Some n)
+
+-- the detached entry, if there is one, is no node
+abbrev pub IsNoNode : Option Detached → Shown → Type 0
+IsNoNode None t = Unit {0}
+IsNoNode (Some x) t = t x.entry ≡ None
+
+-- A cache pictures the table before, and with a draft over it the table after, beside which a detached subtree may stand.
+pub record DraftsBeside (old new : Shown) (detached : Option Detached) (d : Drafted) (c : Resident) : Type 0 where
   -- the cache alone pictures the table before
   pub before : Pictures old c
   -- each node that is seen is the new table's, but for hashes
@@ -92,10 +107,17 @@ pub record Drafts (old new : Shown) (d : Drafted) (c : Resident) : Type 0 where
   pub hashes : (n m : Name) (node : Node) (x : Hash32) → seen d c n ≡ Some node → Holds node m x → WasHash old c m x
   -- the parent of a node that is seen is seen, and is its parent in the new table
   pub parents : (n p : Name) (node : Node) → seen d c n ≡ Some node → IsParent new p n → (parent_after d c n ≡ Some p) × IsSome (seen d c p)
-  pub tied : (n p : Name) (node : Node) → seen d c n ≡ Some node → parent_after d c n ≡ Some p → IsParent new p n
+  -- a node that is seen hangs from its parent, or from the detached entry
+  pub tied : (n p : Name) (node : Node) → seen d c n ≡ Some node → parent_after d c n ≡ Some p → IsParent new p n ⊎ IsBelowDetached detached p n
+  pub hangs : (n p : Name) (node : Node) → seen d c n ≡ Some node → IsBelowDetached detached p n → parent_after d c n ≡ Some p
   -- a node that was taken away isn't live
   pub gone : (n : Name) → IsNodeName n → known d c n ≡ Some None → new n ≡ None
   -- a node that neither draft nor cache has stands for the same in both tables
   pub away : (n : Name) → IsNodeName n → known d c n ≡ None → new n ≡ old n
   -- a name that the draft changes is resident, or wasn't live before
   pub resident : (n : Name) (change : Change) → drafted d n ≡ Some change → IsSome (held_node c n) ⊎ (old n ≡ None)
+  pub out : IsNoNode detached new
+
+-- A cache pictures the table before, and with a draft over it the table after; nothing is detached.
+abbrev pub Drafts : Shown → Shown → Drafted → Resident → Type 0
+Drafts old new d c = DraftsBeside old new None d c

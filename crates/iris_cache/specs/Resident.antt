@@ -34,8 +34,8 @@ parent_in (Some h) = h.parent
 abbrev pub resident_parent : Resident → Name → Option Name
 resident_parent c n = parent_in (held_node c n)
 
--- a node that may be there, changed by f where the test holds
-abbrev pub map_if : Bool → (Held → Held) → Option Held → Option Held
+-- what may be held, changed by f where the test holds
+abbrev pub map_if : {A : Type 0} → Bool → (A → A) → Option A → Option A
 map_if b f h = cond b (option_map f h) h
 
 -- what is held of n is changed by f, and nothing else

@@ -1,10 +1,15 @@
 //! Laws of caches that picture a table.
 
-ghost use Rattle.iris_cache.specs.Laws.{AlikeKeeps, ApplyKeeps, ApplyMarks, EvictKeeps, InsertKeeps, Lacks, SetHashKeeps};
+ghost use Rattle.iris_cache.specs.Laws.{AlikeKeeps, ApplyKeeps, ApplyMarks, ChildWasLive, DraftBegins, EvictKeeps, InsertKeeps, SetHashKeeps};
 
-/// What a plan lacks is live before it, with the hash that the plan expects, and its parent is resident.
-pub fn lacks()
-    ensures { Lacks }
+/// A draft without a change pictures what the cache pictures.
+pub fn draft_begins()
+    ensures { DraftBegins }
+{}
+
+/// A missing child was live before, with the hash that is held of it, and its parent is resident.
+pub fn child_was_live()
+    ensures { ChildWasLive }
 {}
 
 /// A cache goes on picturing a table where a settled node is evicted.

@@ -18,6 +18,7 @@ pub use cache::Cache;
 pub use draft::{Change, Draft};
 pub use held::{Held, Short, Stay};
 pub use laws::{
-    alike_keeps, apply_keeps, apply_marks, evict_keeps, insert_keeps, lacks, set_hash_keeps,
+    alike_keeps, apply_keeps, apply_marks, child_was_live, draft_begins, evict_keeps, insert_keeps,
+    set_hash_keeps,
 };
 

@@ -120,7 +120,6 @@ impl Cache {
     pub fn set_hash(&mut self, name: &Name, hash: Hash32)
         requires resident { IsSome (held_node self.old name.now) }
         requires unsettled { IfSome (held_node self.old name.now) (λ h. h.settled ≡ false) }
-        requires children { (q : SpecName) (h : HeldRecord) → held_node self.old q ≡ Some h → h.parent ≡ Some name.now → h.settled ≡ true }
         ensures nodes { (q : SpecName) → held_node self.new q ≡ map_if (points (resident_parent self.old name.now) q) (with_hash name.now hash) (map_if (same_name name.now q) settled_so (held_node self.old q)) }
         ensures room { self.new.room ≡ self.old.room }
         ensures count { length self.new.nodes ≡ length self.old.nodes }

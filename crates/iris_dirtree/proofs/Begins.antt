@@ -20,10 +20,11 @@ use Rattle.iris_cache.specs.declared.held.Short.TheVariants.{Need, NoMemory}
 use Rattle.iris_cache.specs.Resident.{Resident}
 use Rattle.iris_cache.specs.Drafted.{Drafted, seen, known, there_by}
 use Rattle.iris_cache.specs.Pictures.{Holds, BodyHolds, IsLike}
+use Rattle.iris_cache.specs.Needs.{IsWanted}
 use Rattle.iris_cache.proofs.Lacking.{unknown}
 use Rattle.iris_dirtree.specs.Descents.{IsWantedLink, WantsBelow, Seeking, IsStop}
 use Rattle.iris_dirtree.specs.Found.{entry_of_node, inside, body_inside}
-use Rattle.iris_dirtree.specs.Needs.{Listed, Lacks, IsShort, IsDirectory}
+use Rattle.iris_dirtree.specs.Needs.{Listed, LacksMet, IsMetShort, IsDirectory}
 use Rattle.iris_dirtree.specs.Nodes.{dir_top, body_top, IsTopLack}
 use Rattle.iris_dirtree.specs.Planted.{IsSubtreap}
 use Rattle.iris_dirtree.specs.Rows.{Row, HasRows, unfolded_rows, row_entry, up}
@@ -31,7 +32,7 @@ use Rattle.iris_dirtree.specs.Steps.{entry_name, Seated, Outside}
 use Rattle.iris_dirtree.proofs.Likes.{Placed, placed_rows, top_parent, above_less, above_more, roof, like_row}
 use Rattle.iris_dirtree.specs.Reached.{size}
 use Rattle.iris_dirtree.proofs.Sizes.{above_larger}
-use Rattle.iris_dirtree.proofs.Sees.{Sees, sees_drafts, wanted, root_wanted}
+use Rattle.iris_dirtree.proofs.Sees.{Sees, sees_holding, wanted, root_wanted}
 use Rattle.iris_dirtree.proofs.Stands.{led_named, link_holds, top_way, root_name}
 
 top_inside : (o : Option Node) (top : Option Link) → dir_top o ≡ Some top → top ≡ inside (entry_of_node o)
@@ -97,7 +98,7 @@ module _ (old new : Shown) (c : Resident) (d : Drafted) (see : Sees old new d c)
     wants_of m h.2,
   )
 
-  top_wanted : (k : Option Link) → ((l : Link) → k ≡ Some l → known d c (name.Entry l.id) ≡ None → Rattle.iris_dirtree.specs.Needs.IsWanted old new c (name.Entry l.id) (Hash l.hash)) → IsWantedLink old new c d k
+  top_wanted : (k : Option Link) → ((l : Link) → k ≡ Some l → known d c (name.Entry l.id) ≡ None → IsWanted old new c (name.Entry l.id) (Hash l.hash)) → IsWantedLink old new c d k
   top_wanted None h = tt
   top_wanted (Some l) h = h l refl
 
@@ -126,13 +127,13 @@ module _ (old new : Shown) (c : Resident) (d : Drafted) (see : Sees old new d c)
 
 -- why a plan stops, with what it needs of each picture
 pub stop_short : (key : List ℕ) (dir : FileId) (d : Drafted) (c : Resident) (met : List Row → List Row) (pictured : Shown → Shown → List Row → Type 0) (e : Short)
-    → ((old new : Shown) (all : List Row) → Listed key dir d c old new all → pictured old new (met all)) → IsStop pictured d c e → IsShort (Listed key dir d c) met d c dir e
+    → ((old new : Shown) (all : List Row) → Listed key dir d c old new all → pictured old new (met all)) → IsStop pictured d c e → IsMetShort (Listed key dir d c) met d c dir e
 stop_short key dir d c met pictured NoMemory h stop = tt
 stop_short key dir d c met pictured (Need n x) h stop =
     let u = unknown d c n stop.0 in
     record { unset = u.0; absent = u.1; needed = λ old new all pic. let r = stop.1 old new (met all) (h old new all pic) in (inr r.0, r.1) }
 
-pub top_short : (key : List ℕ) (dir : FileId) (d : Drafted) (c : Resident) (met : List Row → List Row) (e : Short) → IsTopLack d c dir e → IsShort (Listed key dir d c) met d c dir e
+pub top_short : (key : List ℕ) (dir : FileId) (d : Drafted) (c : Resident) (met : List Row → List Row) (e : Short) → IsTopLack d c dir e → IsMetShort (Listed key dir d c) met d c dir e
 top_short key dir d c met NoMemory lack = tt
 top_short key dir d c met (Need n x) lack =
     let u = unknown d c n lack.2 in
@@ -142,8 +143,8 @@ top_short key dir d c met (Need n x) lack =
       needed = λ old new all pic.
           let r = roof new key dir all pic.rows_are in
           let missing : known d c (name.Entry dir) ≡ None = ap (known d c) (sym lack.0) ∙ lack.2 in
-          let W : Name → Type 0 = λ n. Rattle.iris_dirtree.specs.Needs.IsWanted old new c n x in
-          (inl lack.0, subst W (sym lack.0) (root_wanted old new d c (sees_drafts old new d c pic.was pic.is pic.drafts) (name.Entry dir) r.entry x (root_name dir lack.1) tt r.live missing));
+          let W : Name → Type 0 = λ n. IsWanted old new c n x in
+          (inl lack.0, subst W (sym lack.0) (root_wanted old new d c (sees_holding old new None d c pic.was pic.is pic.drafts) (name.Entry dir) r.entry x (root_name dir lack.1) tt r.live missing));
     }
 
 -- ---- a directory is none of its rows

@@ -19,12 +19,12 @@ use Rattle.iris_cache.specs.Pictures.{IsLike}
 use Rattle.iris_cache.specs.Resident.{Resident}
 use Rattle.iris_cache.specs.Drafted.{Drafted, known, seen}
 use Rattle.iris_cache.proofs.Lacking.{unknown}
-use Rattle.iris_dirtree.specs.Needs.{IsShort, Listed}
+use Rattle.iris_dirtree.specs.Needs.{IsMetShort, Listed}
 use Rattle.iris_dirtree.specs.Rows.{Row, row_name, row_entry, unfolded_rows, up}
 use Rattle.iris_dirtree.specs.Ways.{Any, up_to, along_name, along_each, along_page, following}
 use Rattle.iris_dirtree.specs.Found.{entry_of_node, inside}
 use Rattle.iris_dirtree.specs.Piles.{whole, right as right_part, Passed, passed_id, to_list, IsPassed, Tables, Piled, Piling, IsUnderShort}
-use Rattle.iris_dirtree.proofs.Sees.{Sees, sees_drafts}
+use Rattle.iris_dirtree.proofs.Sees.{Sees, sees_holding}
 use Rattle.iris_dirtree.proofs.Likes.{like_row, above_more}
 use Rattle.iris_dirtree.proofs.Stands.{top_way, way_down, is_entry, link_holds}
 use Rattle.iris_dirtree.proofs.Pages.{falls_up_to, skip_false, high_all, sub_rising, sub_along, spine, way_next, page_has}
@@ -73,7 +73,7 @@ tables_of key dir d c old new all pic = record { was = pic.was; is = pic.is; dra
 
 module _ (key after : List ℕ) (most : ℕ) (dir : FileId) (d : Drafted) (c : Resident) (old new : Shown) (all : List Row) (pic : Listed key dir d c old new all) where
   see : Sees old new d c
-  see = sees_drafts old new d c pic.was pic.is pic.drafts
+  see = sees_holding old new None d c pic.was pic.is pic.drafts
 
   abbrev T : Treap Row
   T = treap (up key) all
@@ -185,15 +185,14 @@ module _ (key after : List ℕ) (most : ℕ) (dir : FileId) (d : Drafted) (c : R
 
 -- why a page stops on the way to its next row
 pub page_short : (key after : List ℕ) (most : ℕ) (dir : FileId) (d : Drafted) (c : Resident) (names : List (List ℕ)) (ids : List FileId) (at : Option Link) (i : ℕ) (e : Short) → i < most
-    → ((old new : Shown) (all : List Row) → Listed key dir d c old new all → Page key after most old new d c all names ids at i) → IsUnderShort d c after ids at e → IsShort (Listed key dir d c) (along_page after most key) d c dir e
+    → ((old new : Shown) (all : List Row) → Listed key dir d c old new all → Page key after most old new d c all names ids at i) → IsUnderShort d c after ids at e → IsMetShort (Listed key dir d c) (along_page after most key) d c dir e
 page_short key after most dir d c names ids at i (Need n x) lt s h =
-    let u = unknown d c n h.missing in
     record {
-      unset = u.0;
-      absent = u.1;
+      unset = h.unset;
+      absent = h.absent;
       needed = λ old new all pic.
           let p = s old new all pic in
-          let r = h.needed old new (treap (up key) all) p.begin p.left (tables_of key dir d c old new all pic) p.piling in
+          let r = h.needed old new (record { all = treap (up key) all; begin = p.begin; left = p.left }) (tables_of key dir d c old new all pic, p.piling) in
           (inr (p.meets lt n r.0), r.1);
     }
 page_short key after most dir d c names ids at i NoMemory lt s h = tt

@@ -19,12 +19,13 @@ use Rattle.iris_cache.specs.declared.held.Short.{Short}
 use Rattle.iris_cache.specs.declared.held.Short.TheVariants.{Need}
 use Rattle.iris_cache.specs.Resident.{Resident}
 use Rattle.iris_cache.specs.Drafted.{Drafted, known, seen}
-use Rattle.iris_dirtree.specs.Needs.{IsWanted}
+use Rattle.iris_cache.specs.Needs.{IsWanted}
 use Rattle.iris_dirtree.specs.Rows.{Row, row_entry, unfolded_rows}
 use Rattle.iris_dirtree.specs.Ways.{Any, up_to}
 use Rattle.iris_dirtree.specs.Found.{entry_of_node}
 use Rattle.iris_dirtree.specs.Piles.{Sub, left as left_part, right as right_part, Passed, passed_id, to_list, IsPassed, Tables, Piled, Piling, LacksUnder, IsUnderShort}
-use Rattle.iris_dirtree.proofs.Sees.{Sees, sees_drafts}
+use Rattle.iris_cache.proofs.Lacking.{unknown}
+use Rattle.iris_dirtree.proofs.Sees.{Sees, sees_holding}
 use Rattle.iris_dirtree.proofs.Likes.{leads_empty, leads_over}
 use Rattle.iris_dirtree.proofs.Pasts.{past_bound}
 use Rattle.iris_dirtree.proofs.Stands.{Here, here, no_entry, is_entry}
@@ -40,7 +41,7 @@ to_list_append (z ∷ a) b = ap (λ xs. xs ++ z.row ∷ rows z.more) (to_list_ap
 
 module _ (after : List ℕ) (d : Drafted) (c : Resident) (old new : Shown) (all begin : Treap Row) (left : List Row) (tab : Tables d c old new) where
   see : Sees old new d c
-  see = sees_drafts old new d c tab.was tab.is tab.drafts
+  see = sees_holding old new None d c tab.was tab.is tab.drafts
 
   -- at the end of the way
   pub piling_none : (ids : List FileId) (at : Option Link) (k : ℕ) → at ≡ None → Piling old new d c after all begin left ids at k → Piled new d c all left ids
@@ -125,5 +126,6 @@ pub under_short : (after : List ℕ) (d : Drafted) (c : Resident) (ids : List Fi
     → ((old new : Shown) (all begin : Treap Row) (left : List Row) → Tables d c old new → Piling old new d c after all begin left ids at 1 → Any (λ (r : Row). name.Entry l.id ≡ name.Entry (id_of r.id)) (way (up_to after) begin) × IsWanted old new c (name.Entry l.id) (Hash l.hash))
     → IsUnderShort d c after ids at e
 under_short after d c ids at l e is missing needed =
-    let lacks : LacksUnder d c after ids at (name.Entry l.id) (Hash l.hash) = record { missing = missing; needed = needed } in
+    let u = unknown d c (name.Entry l.id) missing in
+    let lacks : LacksUnder d c after ids at (name.Entry l.id) (Hash l.hash) = record { unset = u.0; absent = u.1; needed = λ old new g pic. needed old new g.all g.begin g.left pic.0 pic.1 } in
     subst (λ e. IsUnderShort d c after ids at e) (sym is) lacks

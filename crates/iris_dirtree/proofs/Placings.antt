@@ -23,7 +23,7 @@ use Rattle.iris_cache.specs.Drafted.{Drafted, seen, known}
 use Rattle.iris_cache.specs.Pictures.{IsLike}
 use Rattle.iris_cache.proofs.Children.{live-name}
 use Rattle.iris_cache.proofs.Lacking.{unknown}
-use Rattle.iris_dirtree.specs.Needs.{IsWanted}
+use Rattle.iris_cache.specs.Needs.{IsWanted}
 use Rattle.iris_dirtree.specs.Nodes.{node_blocks}
 use Rattle.iris_dirtree.specs.Places.{down_to, Rooted, whole_walk, IsOnWay, IsPlaceLack}
 use Rattle.iris_dirtree.specs.Turns.{IsTurn, block_found}
@@ -32,7 +32,7 @@ use Rattle.iris_dirtree.specs.Below.{RootIs, IsOnWayToBlock, LacksBelow, IsBelow
 use Rattle.iris_dirtree.specs.Reached.{size, MetInOrder, Stand}
 use Rattle.iris_dirtree.specs.Found.{entry_of_node}
 use Rattle.iris_dirtree.specs.declared.placing.Turn.TheVariants.{Own, Under}
-use Rattle.iris_dirtree.proofs.Sees.{Sees, sees_drafts, root_wanted}
+use Rattle.iris_dirtree.proofs.Sees.{Sees, sees_holding, root_wanted}
 use Rattle.iris_dirtree.proofs.Pasts.{past_bound}
 use Rattle.iris_dirtree.proofs.Stands.{way_down, is_entry, root_name, led_named, no_entry_by}
 use Rattle.iris_dirtree.proofs.Blocks.{turned, turned_own, walk_none, like_blocks, get_left, get_right, is_less, is_not_less}
@@ -65,7 +65,7 @@ down_head (Stored v bytes) l rest h named = cc
 
 module _ (root : FileId) (d : Drafted) (c : Resident) (old new : Shown) (top : Unfolded) (is : RootIs root d c old new top) where
   see : Sees old new d c
-  see = sees_drafts old new d c is.was is.is is.drafts
+  see = sees_holding old new None d c is.was is.is is.drafts
 
   pub sunk_top : (at : ℕ) (h : Hash32) (b : ℕ) → root.0 < 2 → Sunk root old new d c top at (record { id = root; hash = h; blocks = b }) at 0
   sunk_top at h b lt =
@@ -175,7 +175,7 @@ pub first_lack : (d : Drafted) (c : Resident) (at : ℕ) (e : Short) → ((old n
 first_lack d c at (Need n x) less h = record {
   unset = h.unset;
   absent = h.absent;
-  needed = λ old new root trash pic. let r = root_of d c old new root trash pic in let w = h.needed old new root r in (way_first n root trash at (less old new root r) w.0, w.1);
+  needed = λ old new roots pic. let r = root_of d c old new roots.0 roots.1 pic in let w = h.needed old new roots.0 r in (way_first n roots.0 roots.1 at (less old new roots.0 r) w.0, w.1);
 }
 first_lack d c at NoMemory less h = absurd h
 
@@ -184,10 +184,10 @@ pub second_lack : (d : Drafted) (c : Resident) (at rest : ℕ) (e : Short) → (
 second_lack d c at rest (Need n x) past less h = record {
   unset = h.unset;
   absent = h.absent;
-  needed = λ old new root trash pic.
-      let r = root_of d c old new root trash pic in
-      let t = trash_of d c old new root trash pic in
-      let w = h.needed old new trash t in
-      (way_second n root trash at rest (past old new root r) (less old new trash t) w.0, w.1);
+  needed = λ old new roots pic.
+      let r = root_of d c old new roots.0 roots.1 pic in
+      let t = trash_of d c old new roots.0 roots.1 pic in
+      let w = h.needed old new roots.1 t in
+      (way_second n roots.0 roots.1 at rest (past old new roots.0 r) (less old new roots.1 t) w.0, w.1);
 }
 second_lack d c at rest NoMemory past less h = absurd h

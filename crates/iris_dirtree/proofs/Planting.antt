@@ -33,7 +33,7 @@ use Rattle.iris_dirtree.proofs.Climbs.{there_same, seated_same}
 use Rattle.iris_dirtree.proofs.Likes.{like_row, roof}
 use Rattle.iris_dirtree.proofs.Plants.{risen, likes_from, hang_from, stays_from, hashes_from}
 use Rattle.iris_dirtree.proofs.Rowed.{row_any}
-use Rattle.iris_dirtree.proofs.Sees.{Sees, sees_drafts, seen_resident}
+use Rattle.iris_dirtree.proofs.Sees.{Sees, sees_holding, seen_resident}
 use Rattle.iris_dirtree.proofs.Withouts.{among_each, gone_one, only, any_without, apart_without, is_it, named_parts, outside_none, outside_not, any_named}
 use Rattle.iris_dirtree.proofs.Owned.{seen_same, parent_same}
 use Rattle.iris_dirtree.proofs.There.{is_there}
@@ -93,7 +93,7 @@ module _ (old new : Shown) (key : List ℕ) (dir : FileId) (n : List ℕ) (d : D
 
   module _ (kept : List Crumb) (e : EntryFields) (found : FoundRow old new c (treap (up key) all) d (up key) n kept e) where
     see : Sees old new d c
-    see = sees_drafts old new d c listed.was listed.is listed.drafts
+    see = sees_holding old new None d c listed.was listed.is listed.drafts
 
     taken_id : name.Entry e.id ≡ entry_name x
     taken_id =

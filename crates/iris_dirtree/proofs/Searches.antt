@@ -16,10 +16,11 @@ use Rattle.iris_cache.specs.Resident.{Resident}
 use Rattle.iris_cache.specs.Drafted.{Drafted, seen, known}
 use Rattle.iris_dirtree.specs.Rows.{Row, row_name, unfolded_rows, up}
 use Rattle.iris_dirtree.specs.Ways.{Any, along, along_name, is_row_before, has_name, IsNamed}
-use Rattle.iris_dirtree.specs.Needs.{IsWanted, Listed}
+use Rattle.iris_cache.specs.Needs.{IsWanted}
+use Rattle.iris_dirtree.specs.Needs.{Listed}
 use Rattle.iris_dirtree.specs.Reached.{Way}
 use Rattle.iris_dirtree.specs.Found.{entry_of_node, inside}
-use Rattle.iris_dirtree.proofs.Sees.{Sees, sees_drafts}
+use Rattle.iris_dirtree.proofs.Sees.{Sees, sees_holding}
 use Rattle.iris_dirtree.proofs.Likes.{leads_empty, leads_over}
 use Rattle.iris_dirtree.proofs.Pasts.{past_bound}
 use Rattle.iris_dirtree.proofs.Stands.{Here, here, no_entry, top_way}
@@ -34,11 +35,11 @@ pub record Search (key : List ℕ) (n : List ℕ) (old new : Shown) (d : Drafted
 pub search_top : (key n : List ℕ) (dir : FileId) (d : Drafted) (c : Resident) (old new : Shown) (rows : List Row) (top : Option Link) → Listed key dir d c old new rows → IsSome (known d c (name.Entry dir))
     → top ≡ inside (entry_of_node (seen d c (name.Entry dir))) → Search key n old new d c rows top 1
 search_top key n dir d c old new rows top pic some e =
-    record { rest = treap (up key) rows; way = top_way old new d c (sees_drafts old new d c pic.was pic.is pic.drafts) key dir rows top pic.rows_are some e; down = at_top }
+    record { rest = treap (up key) rows; way = top_way old new d c (sees_holding old new None d c pic.was pic.is pic.drafts) key dir rows top pic.rows_are some e; down = at_top }
 
 module _ (key n : List ℕ) (dir : FileId) (d : Drafted) (c : Resident) (old new : Shown) (rows : List Row) (pic : Listed key dir d c old new rows) where
   see : Sees old new d c
-  see = sees_drafts old new d c pic.was pic.is pic.drafts
+  see = sees_holding old new None d c pic.was pic.is pic.drafts
 
   rises : Rising row_name (shape.rows (treap (up key) rows))
   rises = subst (Rising row_name) (sym (rows_treap (up key) rows)) pic.rows_are.rising

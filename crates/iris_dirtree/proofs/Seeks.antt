@@ -17,7 +17,7 @@ use Rattle.iris_cache.specs.declared.held.Short.TheVariants.{Need, NoMemory}
 use Rattle.iris_cache.specs.Resident.{Resident}
 use Rattle.iris_cache.specs.Drafted.{Drafted, known, seen}
 use Rattle.iris_dirtree.specs.declared.removing.Crumb.{Crumb}
-use Rattle.iris_dirtree.specs.Needs.{IsWanted}
+use Rattle.iris_cache.specs.Needs.{IsWanted}
 use Rattle.iris_dirtree.specs.Nodes.{link_toward, IsLinkLack}
 use Rattle.iris_dirtree.specs.Rows.{Row, unfolded_rows}
 use Rattle.iris_dirtree.specs.Steps.{Fork, forked, under, entry_name, above, WasHash, IsCrumb}

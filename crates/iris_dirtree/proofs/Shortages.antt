@@ -20,7 +20,8 @@ use Rattle.iris_cache.specs.Pictures.{IsSettled}
 use Rattle.iris_cache.proofs.Lacking.{unknown}
 use Rattle.iris_dirtree.specs.Rows.{Row, unfolded_rows, row_entry, up}
 use Rattle.iris_dirtree.specs.Ways.{Any, along, along_name, is_row_before, has_name}
-use Rattle.iris_dirtree.specs.Needs.{ListedInHand, IsShort, IsWanted, IsMet}
+use Rattle.iris_cache.specs.Needs.{IsWanted}
+use Rattle.iris_dirtree.specs.Needs.{ListedInHand, IsMetShort, IsMet}
 use Rattle.iris_dirtree.specs.Nodes.{dir_top}
 use Rattle.iris_dirtree.specs.Grafts.{Fork, entry_name, forked, around, over, Fits, Leads, Passes, Reached}
 use Rattle.iris_dirtree.specs.Splits.{Lacking, IsWayShort}
@@ -97,7 +98,7 @@ module _ (key : List ℕ) (n : List ℕ) (dir : FileId) (x : Row) (d : Drafted) 
       NodeName (name.Part f l i) = Unit {0}
       NodeName (name.Block f p) = ⊥
 
-  pub short_of : (e : Short) → IsWayShort n top c d known_last (name.Entry dir) e → IsShort (ListedInHand key dir x d c) (along_name n key) d c dir e
+  pub short_of : (e : Short) → IsWayShort n top c d known_last (name.Entry dir) e → IsMetShort (ListedInHand key dir x d c) (along_name n key) d c dir e
   short_of NoMemory h = tt
   short_of (Need q w) h =
       record {

@@ -22,12 +22,13 @@ use Rattle.iris_cache.specs.Resident.{Resident}
 use Rattle.iris_cache.specs.Drafted.{Drafted, seen, known, there_by}
 use Rattle.iris_cache.specs.Pictures.{IsLike, Holds, LinkHolds, BodyHolds}
 use Rattle.iris_cache.proofs.Lacking.{unknown}
+use Rattle.iris_cache.specs.Needs.{IsWanted}
 use Rattle.iris_dirtree.specs.Rows.{Row, row_entry, unfolded_rows, up, HasRows}
 use Rattle.iris_dirtree.specs.Ways.{Any}
-use Rattle.iris_dirtree.specs.Needs.{IsWanted, IsDirectory, IsDirNode, IsLack, Lacks, Listed}
+use Rattle.iris_dirtree.specs.Needs.{IsDirectory, IsDirNode, IsMetLack, LacksMet, Listed}
 use Rattle.iris_dirtree.specs.Found.{entry_of_node, inside, body_inside}
 use Rattle.iris_dirtree.specs.Reached.{size, MetInOrder, Way}
-use Rattle.iris_dirtree.proofs.Sees.{Sees, sees_drafts, wanted, root_wanted}
+use Rattle.iris_dirtree.proofs.Sees.{Sees, sees_holding, wanted, root_wanted}
 use Rattle.iris_dirtree.proofs.Likes.{roof, LikeRow, like_row, like_part, leads_over, lead_id, above_less, above_more}
 use Rattle.iris_dirtree.proofs.Pasts.{past_more}
 use Rattle.iris_dirtree.proofs.There.{is_there}
@@ -156,29 +157,29 @@ root_dir d c dir is missing = elim (cases_lt dir.0 2) [ inl lt ↦ lt | inr le �
 
 -- why a plan stops at the directory's entry
 pub top_lack : (key : List ℕ) (d : Drafted) (c : Resident) (dir : FileId) (met : List Row → List Row) (h : Hash32) (e : Short) → e ≡ Need (name.Entry dir) (Hash h) → known d c (name.Entry dir) ≡ None → IsDirectory d c dir
-    → IsLack (Listed key dir d c) met d c dir e
+    → IsMetLack (Listed key dir d c) met d c dir e
 top_lack key d c dir met h e is missing dirs =
     let n = name.Entry dir in
     let u = unknown d c n missing in
     let root = root_name dir (root_dir d c dir dirs missing) in
-    let lacks : Lacks (Listed key dir d c) met d c dir n (Hash h) = record {
+    let lacks : LacksMet (Listed key dir d c) met d c dir n (Hash h) = record {
       unset = u.0;
       absent = u.1;
       needed = λ old new rows pic.
           let r = roof new key dir rows pic.rows_are in
-          (inl refl, root_wanted old new d c (sees_drafts old new d c pic.was pic.is pic.drafts) n r.entry (Hash h) root tt r.live missing);
+          (inl refl, root_wanted old new d c (sees_holding old new None d c pic.was pic.is pic.drafts) n r.entry (Hash h) root tt r.live missing);
     } in
-    subst (λ e. IsLack (Listed key dir d c) met d c dir e) (sym is) lacks
+    subst (λ e. IsMetLack (Listed key dir d c) met d c dir e) (sym is) lacks
 
 -- why a plan stops at a link
 pub link_lack : (key : List ℕ) (d : Drafted) (c : Resident) (dir : FileId) (met : List Row → List Row) (l : Link) (e : Short) → e ≡ Need (name.Entry l.id) (Hash l.hash) → known d c (name.Entry l.id) ≡ None
     → ((old new : Shown) (rows : List Row) → Listed key dir d c old new rows → Any (λ (r : Row). name.Entry l.id ≡ name.Entry (id_of r.id)) (met rows) × IsWanted old new c (name.Entry l.id) (Hash l.hash))
-    → IsLack (Listed key dir d c) met d c dir e
+    → IsMetLack (Listed key dir d c) met d c dir e
 link_lack key d c dir met l e is missing needed =
     let u = unknown d c (name.Entry l.id) missing in
-    let lacks : Lacks (Listed key dir d c) met d c dir (name.Entry l.id) (Hash l.hash) = record {
+    let lacks : LacksMet (Listed key dir d c) met d c dir (name.Entry l.id) (Hash l.hash) = record {
       unset = u.0;
       absent = u.1;
       needed = λ old new rows pic. let n = needed old new rows pic in (inr n.0, n.1);
     } in
-    subst (λ e. IsLack (Listed key dir d c) met d c dir e) (sym is) lacks
+    subst (λ e. IsMetLack (Listed key dir d c) met d c dir e) (sym is) lacks

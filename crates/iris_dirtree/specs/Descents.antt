@@ -15,7 +15,7 @@ use Rattle.iris_cache.specs.Resident.{Resident}
 use Rattle.iris_cache.specs.Drafted.{Drafted, known, seen}
 use Rattle.iris_cache.specs.Pictures.{Holds, IsLike}
 use Rattle.iris_dirtree.specs.declared.removing.Crumb.{Crumb}
-use Rattle.iris_dirtree.specs.Needs.{IsWanted}
+use Rattle.iris_cache.specs.Needs.{IsWanted}
 use Rattle.iris_dirtree.specs.Rows.{Row, unfolded_rows, row_entry}
 use Rattle.iris_dirtree.specs.Steps.{Fork, under, entry_name, above, WasHash, Seated, Leads, AreCrumbs}
 use Rattle.iris_dirtree.specs.Ways.{Any, is_row_before, has_name}

@@ -1,5 +1,5 @@
 -- Laws of a row in hand.
-use Rattle.std.specs.Prelude.{◌≡◌, ◌↔◌, None, Some}
+use Rattle.std.specs.Prelude.{◌≡◌, None, Some}
 use Rattle.iris_name.specs.declared.name.Name.TheVariants as name
 use Rattle.iris_node.specs.Trees.{Shown, node_name}
 use Rattle.iris_node.specs.Unfolded.{id_of}
@@ -8,10 +8,6 @@ use Rattle.iris_cache.specs.Drafted.{Drafted}
 use Rattle.iris_cache.specs.Pictures.{Drafts}
 use Rattle.iris_dirtree.specs.Hands.{Holding}
 use Rattle.iris_dirtree.specs.Rows.{Row, below_row}
-
--- With no row in hand, a cache with a draft pictures whole tables.
-abbrev pub NothingInHand : Type 0
-NothingInHand = (old new : Shown) (d : Drafted) (c : Resident) → Drafts old new d c ↔ Holding old new None d c
 
 -- A row whose id is no node's and that has nothing below it is in hand over every table.
 abbrev pub NewRowInHand : Type 0

@@ -1,5 +1,5 @@
 -- What a plan on a directory lacks.
-use Rattle.std.specs.Prelude.{◌≡◌, ◌⊎◌, ◌≤◌, ℕ, List, Option, Some, None, IsSome}
+use Rattle.std.specs.Prelude.{◌≡◌, ◌⊎◌, ◌≤◌, ℕ, List, Option, Some, None}
 use Rattle.iris_name.specs.declared.name.FileId.{FileId}
 use Rattle.iris_name.specs.declared.name.Name.{Name}
 use Rattle.iris_name.specs.declared.name.Name.TheVariants as name
@@ -8,13 +8,12 @@ use Rattle.iris_node.specs.declared.node.Body.{Body}
 use Rattle.iris_node.specs.declared.node.Body.TheVariants.{Dir, File}
 use Rattle.iris_node.specs.declared.node.Node.{Node}
 use Rattle.iris_node.specs.declared.node.Node.TheVariants as node
-use Rattle.iris_node.specs.Trees.{Shown, IsTree, IsParent, IsRootName}
+use Rattle.iris_node.specs.Trees.{Shown, IsTree}
 use Rattle.iris_node.specs.Unfolded.{id_of}
 use Rattle.iris_cache.specs.declared.held.Short.{Short}
-use Rattle.iris_cache.specs.declared.held.Short.TheVariants.{Need, NoMemory}
-use Rattle.iris_cache.specs.Resident.{Resident, held_node}
-use Rattle.iris_cache.specs.Drafted.{Drafted, drafted, seen}
-use Rattle.iris_cache.specs.Needs.{IsExpected}
+use Rattle.iris_cache.specs.Resident.{Resident}
+use Rattle.iris_cache.specs.Drafted.{Drafted, seen}
+use Rattle.iris_cache.specs.Needs.{Lacks, StopsOnNeed, StopsShort}
 use Rattle.iris_cache.specs.Laws.{AreFormed}
 use Rattle.iris_cache.specs.Pictures.{Drafts}
 use Rattle.iris_dirtree.specs.Rows.{Row, HasRows, IsRooted}
@@ -50,29 +49,18 @@ pub record ListedInHand (key : List ℕ) (dir : FileId) (x : Row) (d : Drafted) 
   pub hand : Holding old new (Some x) d c
   pub rows_are : HasRows new key dir rows
 
--- The name is live, now and before; before, this is its hash, and its parent is resident. A root has no parent, and any hash may be told of it.
-pub record IsWanted (old new : Shown) (c : Resident) (n : Name) (x : Expect) : Type 0 where
-  pub live : IsSome (new n)
-  pub lived : IsSome (old n)
-  pub expected : IsRootName n ⊎ IsExpected x (old n)
-  pub parent : IsRootName n ⊎ ((p : Name) → IsParent old p n → IsSome (held_node c p))
-
 -- the name of the directory's entry, or of one of the rows that are met
 abbrev pub IsMet : FileId → List Row → Name → Type 0
 IsMet dir met n = (n ≡ name.Entry dir) ⊎ Any (λ (r : Row). n ≡ name.Entry (id_of r.id)) met
 
--- A plan lacks a name that neither draft nor cache has. `pictured` says of which tables it speaks, and `met` which rows the plan meets.
-pub record Lacks (pictured : Shown → Shown → List Row → Type 0) (met : List Row → List Row) (d : Drafted) (c : Resident) (dir : FileId) (n : Name) (x : Expect) : Type 0 where
-  pub unset : drafted d n ≡ None
-  pub absent : held_node c n ≡ None
-  pub needed : (old new : Shown) (rows : List Row) → pictured old new rows → IsMet dir (met rows) n × IsWanted old new c n x
+-- A plan on a directory lacks a name. `pictured` says of which tables it speaks, and `met` which rows it meets.
+abbrev pub LacksMet : (Shown → Shown → List Row → Type 0) → (List Row → List Row) → Drafted → Resident → FileId → Name → Expect → Type 0
+LacksMet pictured met d c dir = Lacks pictured (λ new rows n. IsMet dir (met rows) n) d c
 
--- why a plan that takes no memory stops
-abbrev pub IsLack : (Shown → Shown → List Row → Type 0) → (List Row → List Row) → Drafted → Resident → FileId → Short → Type 0
-IsLack pictured met d c dir (Need n x) = Lacks pictured met d c dir n x
-IsLack pictured met d c dir NoMemory = ⊥
+-- why a plan that takes no memory stops: it lacks a name
+abbrev pub IsMetLack : (Shown → Shown → List Row → Type 0) → (List Row → List Row) → Drafted → Resident → FileId → Short → Type 0
+IsMetLack pictured met d c dir = StopsOnNeed (LacksMet pictured met d c dir)
 
--- why a plan stops
-abbrev pub IsShort : (Shown → Shown → List Row → Type 0) → (List Row → List Row) → Drafted → Resident → FileId → Short → Type 0
-IsShort pictured met d c dir (Need n x) = Lacks pictured met d c dir n x
-IsShort pictured met d c dir NoMemory = Unit {0}
+-- why a plan stops: it lacks a name, or memory
+abbrev pub IsMetShort : (Shown → Shown → List Row → Type 0) → (List Row → List Row) → Drafted → Resident → FileId → Short → Type 0
+IsMetShort pictured met d c dir = StopsShort (LacksMet pictured met d c dir)

@@ -1,5 +1,5 @@
 -- Rows that a walk over a directory has passed on its way down and not yet listed.
-use Rattle.std.specs.Prelude.{◌≡◌, ◌++◌, ℕ, List, [], ◌∷◌, map, Option, Some, None}
+use Rattle.std.specs.Prelude.{◌≡◌, ◌++◌, ℕ, List, [], ◌∷◌, map, Option, Some}
 use Rattle.iris_name.specs.declared.name.FileId.{FileId}
 use Rattle.iris_name.specs.declared.name.Name.{Name}
 use Rattle.iris_name.specs.declared.name.Name.TheVariants as name
@@ -11,11 +11,10 @@ use Rattle.iris_node.specs.Trees.{Shown, IsTree}
 use Rattle.iris_node.specs.Unfolded.{id_of}
 use Rattle.iris_shape.specs.Treap.{Treap, Over, rows, high, way, Each}
 use Rattle.iris_cache.specs.declared.held.Short.{Short}
-use Rattle.iris_cache.specs.declared.held.Short.TheVariants.{Need, NoMemory}
+use Rattle.iris_cache.specs.Needs.{Lacks, StopsShort}
 use Rattle.iris_cache.specs.Resident.{Resident}
-use Rattle.iris_cache.specs.Drafted.{Drafted, known, seen}
+use Rattle.iris_cache.specs.Drafted.{Drafted, seen}
 use Rattle.iris_cache.specs.Pictures.{Drafts}
-use Rattle.iris_dirtree.specs.Needs.{IsWanted}
 use Rattle.iris_dirtree.specs.Rows.{Row, row_entry, unfolded_rows}
 use Rattle.iris_dirtree.specs.Ways.{Any, up_to}
 use Rattle.iris_dirtree.specs.Reached.{Way}
@@ -72,13 +71,17 @@ pub record Piling (old new : Shown) (d : Drafted) (c : Resident) (after : List �
   pub leads : Way old new d c (unfolded_rows under) at k
   pub meets : (n : Name) → Any (λ (r : Row). n ≡ name.Entry (id_of r.id)) (way (up_to after) under) → Any (λ (r : Row). n ≡ name.Entry (id_of r.id)) (way (up_to after) begin)
 
+-- What a walk down goes over: the whole treap, the treap under the link where it began, and the rows left to list.
+pub record WalkOver : Type 0 where
+  pub all : Treap Row
+  pub begin : Treap Row
+  pub left : List Row
+
 -- a walk down lacks a name that it meets
-pub record LacksUnder (d : Drafted) (c : Resident) (after : List ℕ) (ids : List FileId) (at : Option Link) (n : Name) (x : Expect) : Type 0 where
-  pub missing : known d c n ≡ None
-  pub needed : (old new : Shown) (all begin : Treap Row) (left : List Row) → Tables d c old new → Piling old new d c after all begin left ids at 1
-      → Any (λ (r : Row). n ≡ name.Entry (id_of r.id)) (way (up_to after) begin) × IsWanted old new c n x
+abbrev pub LacksUnder : Drafted → Resident → List ℕ → List FileId → Option Link → Name → Expect → Type 0
+LacksUnder d c after ids at =
+    Lacks {W = WalkOver} (λ old new g. Tables d c old new × Piling old new d c after g.all g.begin g.left ids at 1) (λ new g n. Any (λ (r : Row). n ≡ name.Entry (id_of r.id)) (way (up_to after) g.begin)) d c
 
 -- why a walk down stops
 abbrev pub IsUnderShort : Drafted → Resident → List ℕ → List FileId → Option Link → Short → Type 0
-IsUnderShort d c after ids at (Need n x) = LacksUnder d c after ids at n x
-IsUnderShort d c after ids at NoMemory = Unit {0}
+IsUnderShort d c after ids at = StopsShort (LacksUnder d c after ids at)

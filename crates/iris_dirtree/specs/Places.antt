@@ -1,5 +1,5 @@
 -- The walk over all blocks, from the visible root and then from the trash.
-use Rattle.std.specs.Prelude.{◌≡◌, ◌⊎◌, ◌-◌, ◌++◌, ℕ, List, [], ◌∷◌, Some, None, nat_lt, if◌then◌else◌}
+use Rattle.std.specs.Prelude.{◌≡◌, ◌⊎◌, ◌-◌, ◌++◌, ℕ, List, [], ◌∷◌, Some, nat_lt, if◌then◌else◌}
 use Rattle.iris_name.specs.declared.name.Name.{Name}
 use Rattle.iris_name.specs.declared.name.Name.TheVariants as name
 use Rattle.iris_name.specs.declared.note.Expect.{Expect}
@@ -7,11 +7,10 @@ use Rattle.iris_node.specs.Trees.{Shown, IsTree}
 use Rattle.iris_node.specs.Unfolded.{Unfolded, Absent, Folder, Leaf, Even, Split, Stored, id_of, blocks}
 use Rattle.iris_node.specs.Walk.{BlockAt, block_count, walk}
 use Rattle.iris_cache.specs.declared.held.Short.{Short}
-use Rattle.iris_cache.specs.declared.held.Short.TheVariants.{Need, NoMemory}
-use Rattle.iris_cache.specs.Resident.{Resident, held_node}
-use Rattle.iris_cache.specs.Drafted.{Drafted, drafted}
+use Rattle.iris_cache.specs.Needs.{Lacks, StopsOnNeed}
+use Rattle.iris_cache.specs.Resident.{Resident}
+use Rattle.iris_cache.specs.Drafted.{Drafted}
 use Rattle.iris_cache.specs.Pictures.{Drafts}
-use Rattle.iris_dirtree.specs.Needs.{IsWanted}
 use Rattle.iris_dirtree.specs.Ways.{Any}
 
 -- A cache with a draft pictures a table whose roots are these.
@@ -46,13 +45,10 @@ way_to at root trash =
 abbrev pub IsOnWay : ℕ → Unfolded → Unfolded → Name → Type 0
 IsOnWay at root trash n = (n ≡ name.Entry (id_of 0)) ⊎ ((n ≡ name.Entry (id_of 1)) ⊎ Any (λ i. n ≡ name.Entry (id_of i)) (way_to at root trash))
 
--- the search for a block of the walk lacks a name that neither draft nor cache has
-pub record LacksPlace (d : Drafted) (c : Resident) (at : ℕ) (n : Name) (x : Expect) : Type 0 where
-  pub unset : drafted d n ≡ None
-  pub absent : held_node c n ≡ None
-  pub needed : (old new : Shown) (root trash : Unfolded) → Rooted d c old new root trash → IsOnWay at root trash n × IsWanted old new c n x
+-- the search for a block of the walk lacks a name
+abbrev pub LacksPlace : Drafted → Resident → ℕ → Name → Expect → Type 0
+LacksPlace d c at = Lacks {W = Unfolded × Unfolded} (λ old new roots. Rooted d c old new roots.0 roots.1) (λ new roots n. IsOnWay at roots.0 roots.1 n) d c
 
 -- why the search stops
 abbrev pub IsPlaceLack : Drafted → Resident → ℕ → Short → Type 0
-IsPlaceLack d c at (Need n x) = LacksPlace d c at n x
-IsPlaceLack d c at NoMemory = ⊥
+IsPlaceLack d c at = StopsOnNeed (LacksPlace d c at)

@@ -10,7 +10,7 @@ use Rattle.iris_node.specs.Trees.{Shown}
 use Rattle.iris_node.specs.Unfolded.{Unfolded, Absent, Folder, Leaf, Even, Split, Stored}
 use Rattle.iris_cache.specs.Resident.{Resident}
 use Rattle.iris_cache.specs.Drafted.{Drafted, seen, known}
-use Rattle.iris_dirtree.specs.Needs.{IsWanted}
+use Rattle.iris_cache.specs.Needs.{IsWanted}
 
 -- how many nodes stand at and below one
 abbrev pub size : Unfolded → ℕ

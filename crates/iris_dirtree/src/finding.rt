@@ -6,7 +6,7 @@ ghost use Rattle.iris_node.specs.Trees.{Shown};
 ghost use Rattle.iris_cache.specs.Drafted.{known, seen};
 ghost use Rattle.iris_dirtree.specs.Rows.{Row};
 ghost use Rattle.iris_dirtree.specs.Ways.{IsNamed, along_name};
-ghost use Rattle.iris_dirtree.specs.Needs.{IsDirectory, Listed, IsLack};
+ghost use Rattle.iris_dirtree.specs.Needs.{IsDirectory, Listed, IsMetLack};
 ghost use Rattle.iris_dirtree.specs.Found.{entry_of_node, inside, id_found};
 
 use crate::nodes::stands_before;
@@ -87,7 +87,7 @@ pub fn plan_find(
     requires dir { IsDirectory draft.now cache.now dir }
     ensures found { IfOk result (λ r. (key : List ℕ) → (old new : Shown) → (rows : List Row) → Listed key dir draft.now cache.now old new rows → IsNamed rows name.now (id_found r)) }
     ensures there { IfOk result (λ r. IfSome r (λ id. IsSome (seen draft.now cache.now (Name.Entry id)))) }
-    ensures short { IfErr result (λ e. (key : List ℕ) → IsLack (Listed key dir draft.now cache.now) (along_name name.now key) draft.now cache.now dir e) }
+    ensures short { IfErr result (λ e. (key : List ℕ) → IsMetLack (Listed key dir draft.now cache.now) (along_name name.now key) draft.now cache.now dir e) }
 {
     let mut at = top_seen(draft, cache, dir)?;
     for _step in 0..longest_way(draft, cache) {

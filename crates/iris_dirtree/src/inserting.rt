@@ -14,7 +14,7 @@ ghost use Rattle.iris_dirtree.specs.Counts.{IsEntryName};
 ghost use Rattle.iris_dirtree.specs.Rows.{Row, Rearranges, IsCountable, up};
 ghost use Rattle.iris_dirtree.specs.Ways.{is_row_before, along_name};
 ghost use Rattle.iris_dirtree.specs.Hands.{IsRowNode, HoldsTrue};
-ghost use Rattle.iris_dirtree.specs.Needs.{IsDirectory, ListedInHand, IsShort};
+ghost use Rattle.iris_dirtree.specs.Needs.{IsDirectory, ListedInHand, IsMetShort};
 ghost use Rattle.iris_dirtree.specs.Planted.{Planted};
 ghost use Rattle.iris_dirtree.specs.Nodes.{link_toward, turned, between, LinksTo, IsLinkLack, IsPut, OnlyEntries};
 ghost use Rattle.iris_dirtree.specs.Grafts.{Fits, Leads, Reached};
@@ -274,7 +274,7 @@ fn plant(
     ensures planted { OnOk result ((old new made : Shown) → (x : Row) → (rows : List Row) → ListedInHand keys.now.order dir x draft.old cache.now old new rows → IsRowNode x node → HoldsTrue old cache.now node → IsTree made → IsCountable made
         → Rearranges new made keys.now.order dir rows (rows_with (is_row_before x.name) x rows) → IsSome (seen draft.old cache.now (Name.Entry dir)) × Planted old dir (treap (up keys.now.order) rows) (treap (up keys.now.order) (rows_with (is_row_before x.name) x rows)) draft.old draft.new cache.now) }
     ensures entries { OnOk result (OnlyEntries draft.old draft.new) }
-    ensures short { IfErr result (λ e. (x : Row) → IsShort (ListedInHand keys.now.order dir x draft.old cache.now) (along_name node.name keys.now.order) draft.old cache.now dir e) }
+    ensures short { IfErr result (λ e. (x : Row) → IsMetShort (ListedInHand keys.now.order dir x draft.old cache.now) (along_name node.name keys.now.order) draft.old cache.now dir e) }
 {
     let name = copy_name(alloc, &node)?;
     let id = id_of(&node);
@@ -303,7 +303,7 @@ pub fn plan_insert(
         → Rearranges new made keys.now.order dir rows (rows_with (is_row_before x.name) x rows) → Drafts old made draft.new cache.now) }
     ensures stays { OnOk result ((n : SpecName) → IsSome (seen draft.old cache.now n) → IsSome (seen draft.new cache.now n)) }
     ensures others { OnOk result ((n : SpecName) → (IsEntryName n → ⊥) → drafted draft.new n ≡ drafted draft.old n) }
-    ensures short { IfErr result (λ e. (x : Row) → IsShort (ListedInHand keys.now.order dir x draft.old cache.now) (along_name node.name keys.now.order) draft.old cache.now dir e) }
+    ensures short { IfErr result (λ e. (x : Row) → IsMetShort (ListedInHand keys.now.order dir x draft.old cache.now) (along_name node.name keys.now.order) draft.old cache.now dir e) }
 {
     if id_of(&node).0 < 2 {
         return Ok(());

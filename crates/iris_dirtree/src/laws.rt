@@ -1,11 +1,6 @@
 //! Laws of a row in hand.
 
-ghost use Rattle.iris_dirtree.specs.Laws.{GivenUp, NewRowInHand, NothingInHand};
-
-/// With no row in hand, a cache with a draft pictures whole tables.
-pub fn nothing_in_hand()
-    ensures { NothingInHand }
-{}
+ghost use Rattle.iris_dirtree.specs.Laws.{GivenUp, NewRowInHand};
 
 /// A new row with nothing below it is in hand.
 pub fn new_row_in_hand()

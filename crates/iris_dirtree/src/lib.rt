@@ -16,7 +16,7 @@ pub use counting::recount;
 pub use finding::plan_find;
 pub use inserting::plan_insert;
 pub use kinds::is_directory;
-pub use laws::{given_up, new_row_in_hand, nothing_in_hand};
+pub use laws::{given_up, new_row_in_hand};
 pub use listing::plan_after;
 pub use placing::plan_place;
 pub use removing::plan_remove;

@@ -9,7 +9,7 @@ ghost use Rattle.iris_shape.specs.Treap.{Treap};
 ghost use Rattle.iris_cache.specs.Drafted.{seen};
 ghost use Rattle.iris_dirtree.specs.Rows.{Row, row_name};
 ghost use Rattle.iris_dirtree.specs.Ways.{following, along_page};
-ghost use Rattle.iris_dirtree.specs.Needs.{IsDirectory, Listed, IsShort};
+ghost use Rattle.iris_dirtree.specs.Needs.{IsDirectory, Listed, IsMetShort};
 ghost use Rattle.iris_dirtree.specs.Found.{entry_of_node};
 ghost use Rattle.iris_dirtree.specs.Piles.{Tables, Piled, Piling, IsUnderShort};
 
@@ -85,7 +85,7 @@ pub fn plan_after(
 ) -> Result<Texts, Short>
     requires dir { IsDirectory draft.now cache.now dir }
     ensures page { IfOk result (λ names. (key : List ℕ) → (old new : Shown) → (rows : List Row) → Listed key dir draft.now cache.now old new rows → names ≡ map row_name (following after.now most rows)) }
-    ensures short { IfErr result (λ e. (key : List ℕ) → IsShort (Listed key dir draft.now cache.now) (along_page after.now most key) draft.now cache.now dir e) }
+    ensures short { IfErr result (λ e. (key : List ℕ) → IsMetShort (Listed key dir draft.now cache.now) (along_page after.now most key) draft.now cache.now dir e) }
 {
     let mut names = Texts::new(alloc);
     let mut waiting = Vec::new(alloc);

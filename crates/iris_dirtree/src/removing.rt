@@ -12,7 +12,7 @@ ghost use Rattle.iris_cache.specs.Drafted.{Drafted, drafted, seen};
 ghost use Rattle.iris_dirtree.specs.Descents.{Seeking, FoundRow, Joining, Ended, IsStop, Seeks, Joins};
 ghost use Rattle.iris_dirtree.specs.Hands.{Holding, HoldsTrue, IsRowNode};
 ghost use Rattle.iris_dirtree.specs.Counts.{IsEntryName};
-ghost use Rattle.iris_dirtree.specs.Needs.{IsDirectory, IsShort, Listed};
+ghost use Rattle.iris_dirtree.specs.Needs.{IsDirectory, IsMetShort, Listed};
 ghost use Rattle.iris_dirtree.specs.Nodes.{IsPut, LinksTo, between, turned};
 ghost use Rattle.iris_dirtree.specs.Planted.{Planted};
 ghost use Rattle.iris_dirtree.specs.Rows.{IsCountable, Rearranges, Row, treap_of_rows, unfolded_rows, up};
@@ -240,7 +240,7 @@ fn unplant(
     ensures row { IfOk result (λ e. (old new : Shown) → (x : Row) → (rows : List Row) → Listed keys.now.order dir draft.old cache.now old new rows → Any (λ r. r ≡ x) rows → x.name ≡ name.now → IsRowNode x e × HoldsTrue old cache.now e) }
     ensures stays { IfOk result (λ e. (n : SpecName) → IsSome (seen draft.old cache.now n) → (n ≡ Name.Entry e.id → ⊥) → IsSome (seen draft.new cache.now n)) }
     ensures others { OnOk result ((n : SpecName) → (IsEntryName n → ⊥) → drafted draft.new n ≡ drafted draft.old n) }
-    ensures short { IfErr result (IsShort (Listed keys.now.order dir draft.old cache.now) (near_name name.now keys.now.order) draft.old cache.now dir) }
+    ensures short { IfErr result (IsMetShort (Listed keys.now.order dir draft.old cache.now) (near_name name.now keys.now.order) draft.old cache.now dir) }
 {
     let top = top_of(draft, cache, dir)?;
     let Found { path, row } = find_row(alloc, draft, cache, top, name)?;
@@ -282,7 +282,7 @@ pub fn plan_remove(
     ensures bare { IfOk result (λ e. (e.left ≡ None) × (e.right ≡ None)) }
     ensures stays { IfOk result (λ e. (n : SpecName) → IsSome (seen draft.old cache.now n) → (n ≡ Name.Entry e.id → ⊥) → IsSome (seen draft.new cache.now n)) }
     ensures others { OnOk result ((n : SpecName) → (IsEntryName n → ⊥) → drafted draft.new n ≡ drafted draft.old n) }
-    ensures short { IfErr result (IsShort (Listed keys.now.order dir draft.old cache.now) (near_name name.now keys.now.order) draft.old cache.now dir) }
+    ensures short { IfErr result (IsMetShort (Listed keys.now.order dir draft.old cache.now) (near_name name.now keys.now.order) draft.old cache.now dir) }
 {
     let entry = unplant(alloc, draft, cache, keys, dir, name)?;
     recount(alloc, draft, cache, dir)?;

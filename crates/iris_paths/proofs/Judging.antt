@@ -15,7 +15,7 @@ use Rattle.iris_plain.specs.Checks.{is_directory_seen, size_of}
 use Rattle.iris_plain.specs.Steps.{Judged}
 use Rattle.iris_dirtree.specs.Rows.{Row, row_name, HasRows}
 use Rattle.iris_dirtree.specs.Ways.{following, along_page}
-use Rattle.iris_dirtree.specs.Needs.{Listed, IsShort}
+use Rattle.iris_dirtree.specs.Needs.{Listed, IsMetShort}
 use Rattle.std.proofs.Common.{map}
 use Rattle.iris_paths.specs.declared.entering.Place.TheVariants.{In}
 use Rattle.iris_paths.specs.Pictured.{Pictured, IsPathLack, IsPathShort, every}
@@ -39,7 +39,7 @@ pub lack_short : (key : List ℕ) (also also2 : Shown → Shown → Type 0) (rea
 lack_short key also also2 reached reached2 d c (Need n x) f g h = record {
   unset = h.unset;
   absent = h.absent;
-  needed = λ met old new pic more. let w = h.needed met old new pic (f old new more) in (g new n w.0, w.1);
+  needed = λ old new met pic. let w = h.needed old new met (pic.0, f old new pic.1) in (g new n w.0, w.1);
 }
 lack_short key also also2 reached reached2 d c NoMemory f g h = tt
 
@@ -55,14 +55,14 @@ lists d c names dir after page entered is key met old new pic =
 
 -- what a page lacks, its listing lacks
 pub page_lacks : (d : Drafted) (c : Resident) (names : List (List ℕ)) (dir : FileId) (after : List ℕ) (e : Short) (key : List ℕ) → IsEntered d c names (In dir)
-    → IsShort (Listed key dir d c) (along_page after most_names key) d c dir e → IsPathShort key every (IsListed key names after) d c e
+    → IsMetShort (Listed key dir d c) (along_page after most_names key) d c dir e → IsPathShort key every (IsListed key names after) d c e
 page_lacks d c names dir after (Need n x) key entered h = record {
   unset = h.unset;
   absent = h.absent;
-  needed = λ met old new pic _.
-      let at = entered.1 key met old new pic in
-      let r = rows_there names dir key met d c old new pic at in
-      let w = h.needed old new r.0 (listed dir r.0 pic r.1) in
+  needed = λ old new met pic.
+      let at = entered.1 key met old new pic.0 in
+      let r = rows_there names dir key met d c old new pic.0 at in
+      let w = h.needed old new r.0 (listed dir r.0 pic.0 r.1) in
       (inr (record { dir = dir; above = at.above; rows = r.0; leads = at.leads; has = r.1; met = w.0 }), w.1);
 }
 page_lacks d c names dir after NoMemory key entered h = tt

@@ -16,9 +16,10 @@ use Rattle.iris_cache.specs.Pictures.{Drafts, BodyHolds}
 use Rattle.iris_plain.specs.declared.checks.Seen.{Seen}
 use Rattle.iris_plain.specs.Routes.{parent, last}
 use Rattle.iris_dirtree.specs.Rows.{Row, HasRows, Rearranges, IsCountable}
-use Rattle.iris_dirtree.specs.Hands.{Holding, IsRowNode, HoldsTrue, below_row}
+use Rattle.iris_dirtree.proofs.Handed.{beside_other, none_below}
+use Rattle.iris_dirtree.specs.Hands.{detached_row, Holding, IsRowNode, HoldsTrue, below_row}
 use Rattle.iris_dirtree.specs.Ways.{is_row_before, along_name}
-use Rattle.iris_dirtree.specs.Needs.{ListedInHand, IsShort, IsMet}
+use Rattle.iris_dirtree.specs.Needs.{ListedInHand, IsMetShort, IsMet}
 use Rattle.iris_paths.specs.declared.resolving.Found.TheVariants.{At}
 use Rattle.iris_paths.specs.declared.entering.Place.TheVariants.{In}
 use Rattle.iris_paths.specs.Resolving.{Resolves}
@@ -50,18 +51,7 @@ nothing_below false n e = cc
 
 -- a cache with a draft holds a new row: nothing is below it
 pub holds_new : (old new : Shown) (id : FileId) (label : List ℕ) (dir : Bool) (d : Drafted) (c : Resident) → new (name.Entry id) ≡ None → Drafts old new d c → Holding old new (Some (new_row id.0 label dir)) d c
-holds_new old new id label dir d c empty_content p = record {
-  before = p.before;
-  nodes = p.nodes;
-  hashes = p.hashes;
-  parents = p.parents;
-  tied = λ n q node s e. inl (p.tied n q node s e);
-  hangs = λ n q node s b. absurd (nothing_below dir n b.1);
-  gone = p.gone;
-  away = p.away;
-  resident = p.resident;
-  out = empty_content;
-}
+holds_new old new id label dir d c free p = beside_other old new None (Some (detached_row (new_row id.0 label dir))) d c p none_below (λ q n below. nothing_below dir n below.1) free
 
 pub new_in_hand : (key : List ℕ) (met : List (List ℕ) → Seen) (d : Drafted) (c : Resident) (old new : Shown) (id folder : FileId) (label : List ℕ) (dir : Bool) (rows : List Row)
     → Pictured key met d c old new → IsNew id old new → HasRows new key folder rows → ListedInHand key folder (new_row id.0 label dir) d c old new rows
@@ -94,15 +84,15 @@ module _ (key : List ℕ) (d : Drafted) (c : Resident) (names : List (List ℕ))
       (subst (IsRowNode x) (sym is) (new_like id (last names) isdir)) (subst (HoldsTrue old c) (sym is) (new_holds old c id (last names) isdir)) tree countable
       (subst (λ i. Rearranges new made key i rows (rows_with (is_row_before (last names)) x rows)) same arranges)
 
-  pub make_lacks : (label : List ℕ) (e : Short) → label ≡ last names → ((x : Row) → IsShort (ListedInHand key dir x d c) (along_name label key) d c dir e) → IsPathShort key (IsNew id) (IsOnTrail key names) d c e
+  pub make_lacks : (label : List ℕ) (e : Short) → label ≡ last names → ((x : Row) → IsMetShort (ListedInHand key dir x d c) (along_name label key) d c dir e) → IsPathShort key (IsNew id) (IsOnTrail key names) d c e
   make_lacks label (Need n w) is short =
       let h = short (new_row id.0 (last names) isdir) in
       record {
         unset = h.unset;
         absent = h.absent;
-        needed = λ met old new pic fresh.
-            let at = place.2 key met old new pic in
-            let k = h.needed old new at.rows (new_in_hand key met d c old new id dir (last names) isdir at.rows pic fresh at.has) in
+        needed = λ old new met pic.
+            let at = place.2 key met old new pic.0 in
+            let k = h.needed old new at.rows (new_in_hand key met d c old new id dir (last names) isdir at.rows pic.0 pic.1 at.has) in
             (at.along at.rows n at.has (subst (λ l. IsMet dir (along_name l key at.rows) n) is k.0), k.1);
       }
   make_lacks label NoMemory is short = tt

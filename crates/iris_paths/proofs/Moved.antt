@@ -30,7 +30,7 @@ use Rattle.iris_plain.specs.Routes.{parent, last, is_top, is_front}
 use Rattle.iris_dirtree.specs.Rows.{Row, Content, Directory, File, HasRows, Rearranges, IsCountable, entry_of, up}
 use Rattle.iris_dirtree.specs.Hands.{Holding, IsRowNode, HoldsTrue}
 use Rattle.iris_dirtree.specs.Ways.{Any, is_row_before, has_name, along_name}
-use Rattle.iris_dirtree.specs.Needs.{Listed, ListedInHand, IsShort, IsMet}
+use Rattle.iris_dirtree.specs.Needs.{Listed, ListedInHand, IsMetShort, IsMet}
 use Rattle.iris_dirtree.proofs.Owned.{seen_own}
 use Rattle.iris_paths.specs.declared.resolving.Found.{Found}
 use Rattle.iris_paths.specs.declared.resolving.Found.TheVariants.{At}
@@ -127,22 +127,8 @@ alone e label = record { id = e.id; name = label; left = None; right = None; bod
 like_renamed : (x : Row) (e : EntryFields) (label : List ℕ) → IsRowNode x e → IsRowNode (renamed_row label x) (alone e label)
 like_renamed x e label h = like_by x.id x.name e.name x.content e.id e.body h label
 
-holds_renamed : (old new : Shown) (x : Row) (label : List ℕ) (d : Drafted) (c : Resident) → Holding old new (Some x) d c → Holding old new (Some (renamed_row label x)) d c
-holds_renamed old new x label d c h = record {
-  before = h.before;
-  nodes = h.nodes;
-  hashes = h.hashes;
-  parents = h.parents;
-  tied = h.tied;
-  hangs = h.hangs;
-  gone = h.gone;
-  away = h.away;
-  resident = h.resident;
-  out = h.out;
-}
-
 in_hand : (key : List ℕ) (into : FileId) (label : List ℕ) (x : Row) (others : List Row) (old mid : Shown) (d : Drafted) (c : Resident) → IsTree old → IsWhole old → IsTree mid → Holding old mid (Some x) d c → HasRows mid key into others → ListedInHand key into (renamed_row label x) d c old mid others
-in_hand key into label x others old mid d c was rooted is hand has = record { was = was; rooted = rooted.0; formed = rooted.1; is = is; hand = holds_renamed old mid x label d c hand; rows_are = has }
+in_hand key into label x others old mid d c was rooted is hand has = record { was = was; rooted = rooted.0; formed = rooted.1; is = is; hand = hand; rows_are = has }
 
 unset_by : (d : Drafted) (c : Resident) (old new : Shown) (n : Name) (o : Option Change) → Drafts old new d c → drafted d n ≡ o → held_node c n ≡ None → IsSome (old n) → o ≡ None
 unset_by d c old new n None p e absent lived = refl
@@ -165,7 +151,7 @@ module _ (key : List ℕ) (out : FileId) (name : List ℕ) (into : FileId) (labe
       inserted old mid made (renamed_row label x) others (in_hand key into label x others old mid e c was rooted t.tree h.0 p.has)
       (subst (IsRowNode (renamed_row label x)) (sym same) (like_renamed x entry label h.1)) (subst (HoldsTrue old c) (sym same) h.2) p.tree p.countable p.arranges
 
-  pub carry_lacks : (short : Short) (called : List ℕ) → called ≡ label → ((x : Row) → IsShort (ListedInHand key into x e c) (along_name called key) e c into short) → IsCarryShort key out name into label d c short
+  pub carry_lacks : (short : Short) (called : List ℕ) → called ≡ label → ((x : Row) → IsMetShort (ListedInHand key into x e c) (along_name called key) e c into short) → IsCarryShort key out name into label d c short
   carry_lacks (Need n w) called same lacks = inr (record {
     absent = (lacks any_row).absent;
     needed = λ old new mid x rows others was is drafts rooted t has.
@@ -182,7 +168,7 @@ pub trail_lacks : (key : List ℕ) (from to names : List (List ℕ)) (d : Drafte
 trail_lacks key from to names d c (Need n x) f h = inl (record {
   unset = h.unset;
   absent = h.absent;
-  needed = λ met old new pic a. let w = h.needed met old new pic a in (f new n w.0, w.1);
+  needed = λ old new met pic. let w = h.needed old new met pic in (f new n w.0, w.1);
 })
 trail_lacks key from to names d c NoMemory f h = tt
 
@@ -240,10 +226,10 @@ move_lacks key from to out into d c (Need n x) source place h = elim h [
   | inl k ↦ inl (record {
     unset = k.unset;
     absent = k.absent;
-    needed = λ met old new pic a.
-        let s = (source.3 key met old new pic).2 in
+    needed = λ old new met pic.
+        let s = (source.3 key met old new pic.0).2 in
         let r = path_rows new key from s.0 out source.1 s.1 in
-        let w = k.needed old new r.0 (listed out r.0 pic r.1) in
+        let w = k.needed old new r.0 (listed out r.0 pic.0 r.1) in
         (inr (inr (record { id = s.0; dir = out; rows = r.0; leads = s.1; has = r.1; met = w.0 })), w.1);
   })
   | inr k ↦ inr (record {

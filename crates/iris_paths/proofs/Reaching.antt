@@ -17,7 +17,7 @@ use Rattle.iris_plain.specs.declared.checks.Seen.{Seen}
 use Rattle.iris_plain.specs.declared.checks.Seen.TheVariants.{ADirectory}
 use Rattle.iris_dirtree.specs.Rows.{Row, HasRows}
 use Rattle.iris_dirtree.specs.Ways.{IsNamed, along_name}
-use Rattle.iris_dirtree.specs.Needs.{Listed, IsDirectory, IsDirNode, IsMet, IsLack}
+use Rattle.iris_dirtree.specs.Needs.{Listed, IsDirectory, IsDirNode, IsMet, IsMetLack}
 use Rattle.iris_paths.specs.declared.resolving.Found.{Found}
 use Rattle.iris_paths.specs.declared.resolving.Found.TheVariants.{Missing, ThroughFile}
 use Rattle.iris_paths.specs.Resolving.{root_id, Leads, Resolves, standing_at}
@@ -99,15 +99,15 @@ module _ (key : List ℕ) (met : List (List ℕ) → Seen) (d : Drafted) (c : Re
 
 -- what a search for a row lacks, a plan lacks that meets what the search meets
 pub search_lacks : (key : List ℕ) (d : Drafted) (c : Resident) (at : FileId) (n : List ℕ) (also : Shown → Shown → Type 0) (reached : Shown → Name → Type 0) (e : Short)
-    → IsLack (Listed key at d c) (along_name n key) d c at e
+    → IsMetLack (Listed key at d c) (along_name n key) d c at e
     → ((met : List (List ℕ) → Seen) (old new : Shown) → Pictured key met d c old new → also old new → (rows : List Row) × HasRows new key at rows × ((m : Name) → IsMet at (along_name n key rows) m → reached new m))
     → IsPathLack key also reached d c e
 search_lacks key d c at n also reached (Need m x) h there = record {
   unset = h.unset;
   absent = h.absent;
-  needed = λ met old new pic more.
-      let r = there met old new pic more in
-      let w = h.needed old new r.0 (listed at r.0 pic r.1) in
+  needed = λ old new met pic.
+      let r = there met old new pic.0 pic.1 in
+      let w = h.needed old new r.0 (listed at r.0 pic.0 r.1) in
       (r.2 m w.0, w.1);
 }
 search_lacks key d c at n also reached NoMemory h there = h

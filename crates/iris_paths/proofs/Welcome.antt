@@ -22,7 +22,7 @@ use Rattle.iris_plain.specs.Checks.{new_name, no_place, is_there}
 use Rattle.iris_plain.specs.Routes.{parent, last, is_top}
 use Rattle.iris_dirtree.specs.Rows.{Row, HasRows}
 use Rattle.iris_dirtree.specs.Ways.{IsNamed, along_name}
-use Rattle.iris_dirtree.specs.Needs.{Listed, IsLack, IsMet}
+use Rattle.iris_dirtree.specs.Needs.{Listed, IsMetLack, IsMet}
 use Rattle.iris_dirtree.proofs.Owned.{seen_own}
 use Rattle.iris_paths.specs.declared.resolving.Found.TheVariants.{Missing}
 use Rattle.iris_paths.specs.declared.entering.Place.TheVariants.{In, Not}
@@ -63,8 +63,8 @@ pub lack_more : (key : List ℕ) (names more whole : List (List ℕ)) (d : Draft
 lack_more key names more whole d c (Need n x) same h = record {
   unset = h.unset;
   absent = h.absent;
-  needed = λ met old new pic also.
-      let w = h.needed met old new pic also in
+  needed = λ old new met pic.
+      let w = h.needed old new met pic in
       (subst (λ l. IsOnTrail key l new n) (sym same) (trail_more new key names more n w.0), w.1);
 }
 lack_more key names more whole d c NoMemory same h = h
@@ -106,7 +106,7 @@ module _ (d : Drafted) (c : Resident) (names : List (List ℕ)) (dir : FileId) (
       let f = pic.meets (parent names ++ last names ∷ []) in
       subst (λ l. IsOnTrail key l new m) (sym (ends names some)) (inr (at.along (last names ∷ []) f.0 f.1 m (nearby dir (last names) [] rows m has h)))
 
-  pub find_lacks : (e : Short) (key : List ℕ) → IsLack (Listed key dir d c) (along_name (last names) key) d c dir e → IsPathLack key every (IsOnTrail key names) d c e
+  pub find_lacks : (e : Short) (key : List ℕ) → IsMetLack (Listed key dir d c) (along_name (last names) key) d c dir e → IsPathLack key every (IsOnTrail key names) d c e
   find_lacks e key h = search_lacks key d c dir (last names) every (IsOnTrail key names) e h (λ met old new pic _.
       let r = rows_there (parent names) dir key met d c old new pic (entered.1 key met old new pic) in
       (r.0, r.1, λ m k. on_trail key met old new pic r.0 m r.1 k))

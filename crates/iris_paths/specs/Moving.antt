@@ -16,13 +16,14 @@ use Rattle.iris_plain.specs.Checks.{unresolved, move_checks, no_place}
 use Rattle.iris_plain.specs.Routes.{parent, last, is_top, is_front}
 use Rattle.iris_dirtree.specs.Rows.{Row, HasRows, Rearranges, IsCountable}
 use Rattle.iris_dirtree.specs.Ways.{Any, is_row_before, has_name, along_name, near_name}
-use Rattle.iris_dirtree.specs.Needs.{IsDirectory, Listed, IsMet, IsWanted, IsShort}
+use Rattle.iris_cache.specs.Needs.{IsWanted}
+use Rattle.iris_dirtree.specs.Needs.{IsDirectory, Listed, IsMet, IsMetShort}
 use Rattle.iris_paths.specs.declared.resolving.Found.TheVariants.{At}
 use Rattle.iris_paths.specs.declared.entering.Place.{Place}
 use Rattle.iris_paths.specs.declared.entering.Place.TheVariants.{In, Not}
 use Rattle.iris_paths.specs.Resolving.{Resolves}
 use Rattle.iris_paths.specs.Making.{IsWhole}
-use Rattle.iris_paths.specs.Pictured.{Pictured, IsOnTrail, Lacks, every}
+use Rattle.iris_paths.specs.Pictured.{Pictured, IsOnTrail, LacksPath, every}
 
 -- a row under another name
 abbrev pub renamed_row : List ℕ → Row → Row
@@ -73,7 +74,7 @@ pub record LacksThen (key : List ℕ) (out : FileId) (name : List ℕ) (into : F
 
 -- why moving a row stops
 abbrev pub IsCarryShort : List ℕ → FileId → List ℕ → FileId → List ℕ → Drafted → Resident → Short → Type 0
-IsCarryShort key out name into label d c (Need n x) = IsShort (Listed key out d c) (near_name name key) d c out (Need n x) ⊎ LacksThen key out name into label d c n x
+IsCarryShort key out name into label d c (Need n x) = IsMetShort (Listed key out d c) (near_name name key) d c out (Need n x) ⊎ LacksThen key out name into label d c n x
 IsCarryShort key out name into label d c NoMemory = Unit {0}
 
 -- The tables that a renaming speaks of: the row can be taken out.
@@ -97,5 +98,5 @@ pub record LacksInHand (key : List ℕ) (from to : List (List ℕ)) (d : Drafted
 
 -- why a renaming stops
 abbrev pub IsMoveShort : List ℕ → List (List ℕ) → List (List ℕ) → Drafted → Resident → Short → Type 0
-IsMoveShort key from to d c (Need n x) = Lacks key every (IsMoved key from to) d c n x ⊎ LacksInHand key from to d c n x
+IsMoveShort key from to d c (Need n x) = LacksPath key every (IsMoved key from to) d c n x ⊎ LacksInHand key from to d c n x
 IsMoveShort key from to d c NoMemory = Unit {0}

@@ -1,20 +1,20 @@
 -- The tables of which a plan on paths speaks, and what it lacks.
-use Rattle.std.specs.Prelude.{◌≡◌, ◌⊎◌, ◌≤◌, ℕ, List, ◌∷◌, Some, None, IsSome}
+use Rattle.std.specs.Prelude.{◌≡◌, ◌⊎◌, ◌≤◌, ℕ, List, ◌∷◌, Some, IsSome}
 use Rattle.iris_name.specs.declared.name.FileId.{FileId}
 use Rattle.iris_name.specs.declared.name.Name.{Name}
 use Rattle.iris_name.specs.declared.name.Name.TheVariants as name
 use Rattle.iris_name.specs.declared.note.Expect.{Expect}
 use Rattle.iris_node.specs.Trees.{Shown, IsTree}
 use Rattle.iris_cache.specs.declared.held.Short.{Short}
-use Rattle.iris_cache.specs.declared.held.Short.TheVariants.{Need, NoMemory}
-use Rattle.iris_cache.specs.Resident.{Resident, held_node}
-use Rattle.iris_cache.specs.Drafted.{Drafted, drafted, seen}
+use Rattle.iris_cache.specs.Needs.{Lacks, StopsOnNeed, StopsShort}
+use Rattle.iris_cache.specs.Resident.{Resident}
+use Rattle.iris_cache.specs.Drafted.{Drafted, seen}
 use Rattle.iris_cache.specs.Pictures.{Drafts}
 use Rattle.iris_plain.specs.declared.checks.Seen.{Seen}
 use Rattle.iris_plain.specs.declared.checks.Seen.TheVariants.{ADirectory}
 use Rattle.iris_dirtree.specs.Rows.{Row, HasRows}
 use Rattle.iris_dirtree.specs.Ways.{IsNamed, along_name}
-use Rattle.iris_dirtree.specs.Needs.{IsDirectory, IsMet, IsWanted}
+use Rattle.iris_dirtree.specs.Needs.{IsDirectory, IsMet}
 use Rattle.iris_paths.specs.declared.resolving.Found.{Found}
 use Rattle.iris_paths.specs.declared.resolving.Found.TheVariants.{At, Missing, ThroughFile}
 use Rattle.iris_paths.specs.Resolving.{root_id, standing_at, Meets}
@@ -48,22 +48,18 @@ pub data IsAlong (t : Shown) (key : List ℕ) : FileId → List (List ℕ) → N
 abbrev pub IsOnTrail : List ℕ → List (List ℕ) → Shown → Name → Type 0
 IsOnTrail key names t m = (m ≡ name.Entry root_id) ⊎ IsAlong t key root_id names m
 
--- A plan lacks a name that neither draft nor cache has. It speaks of the tables of which `also` holds, and reaches there what `reached` says.
-pub record Lacks (key : List ℕ) (also : Shown → Shown → Type 0) (reached : Shown → Name → Type 0) (d : Drafted) (c : Resident) (n : Name) (x : Expect) : Type 0 where
-  pub unset : drafted d n ≡ None
-  pub absent : held_node c n ≡ None
-  pub needed : (met : List (List ℕ) → Seen) (old new : Shown) → Pictured key met d c old new → also old new → reached new n × IsWanted old new c n x
-
 -- every pictured table
 abbrev pub every : Shown → Shown → Type 0
 every old new = Unit {0}
 
--- why a plan that takes no memory stops
-abbrev pub IsPathLack : List ℕ → (Shown → Shown → Type 0) → (Shown → Name → Type 0) → Drafted → Resident → Short → Type 0
-IsPathLack key also reached d c (Need n x) = Lacks key also reached d c n x
-IsPathLack key also reached d c NoMemory = ⊥
+-- A plan on paths lacks a name. It speaks of the tables of which `also` holds, and reaches there what `reached` says.
+abbrev pub LacksPath : List ℕ → (Shown → Shown → Type 0) → (Shown → Name → Type 0) → Drafted → Resident → Name → Expect → Type 0
+LacksPath key also reached d c = Lacks {W = List (List ℕ) → Seen} (λ old new met. Pictured key met d c old new × also old new) (λ new met n. reached new n) d c
 
--- why a plan stops
+-- why a plan that takes no memory stops: it lacks a name
+abbrev pub IsPathLack : List ℕ → (Shown → Shown → Type 0) → (Shown → Name → Type 0) → Drafted → Resident → Short → Type 0
+IsPathLack key also reached d c = StopsOnNeed (LacksPath key also reached d c)
+
+-- why a plan stops: it lacks a name, or memory
 abbrev pub IsPathShort : List ℕ → (Shown → Shown → Type 0) → (Shown → Name → Type 0) → Drafted → Resident → Short → Type 0
-IsPathShort key also reached d c (Need n x) = Lacks key also reached d c n x
-IsPathShort key also reached d c NoMemory = Unit {0}
+IsPathShort key also reached d c = StopsShort (LacksPath key also reached d c)

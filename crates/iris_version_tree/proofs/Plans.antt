@@ -21,12 +21,12 @@ use Rattle.iris_node.specs.Trees.{Shown, node_name, IsTree, IsParent, IsAbove}
 use Rattle.iris_cache.specs.Pictures.{IsLike, WasHash}
 use Rattle.iris_cache.proofs.Lacking.{parent_named, unknown}
 use Rattle.iris_version_tree.specs.Versions.{Versioned, HasVersions, Reversions, IsOfOtherFile, IsFileOf, whole, reversioned, places}
-use Rattle.iris_version_tree.specs.Needs.{Lacks, IsShort}
+use Rattle.iris_version_tree.specs.Needs.{LacksPart, IsPartShort}
 use Rattle.iris_version_tree.specs.Sides.{side_seen, over_name}
 use Rattle.iris_version_tree.specs.Reached.{IsTwo, IsLinkedSide, Reached}
 use Rattle.iris_version_tree.specs.Ranges.{Within, AtPart, Under, SideAt, IsMissing}
 use Rattle.iris_version_tree.proofs.Tables.{part_parent}
-use Rattle.iris_version_tree.proofs.Walks.{reached_top, true_need}
+use Rattle.iris_version_tree.proofs.Walks.{reached_top, part_wanted}
 use Rattle.iris_version_tree.proofs.Hashes.{over_is}
 use Rattle.iris_version_tree.proofs.Likes.{two_node, node_with}
 use Rattle.iris_version_tree.proofs.Reversions.{above_forth, above_back, IsTopSide}
@@ -77,18 +77,17 @@ module _ (old new : Shown) (file : FileId) (v : ℕ → ℕ) (d : Drafted) (c : 
 
 -- ---- what a range lacks
 
-pub short_of : (d : Drafted) (c : Resident) (file : FileId) (s : Side) (low high : ℕ) (e : Short) → side_seen (seen d c (name.Entry file)) ≡ Some s → IsMissing d c file 16 0 s low high e → IsShort d c file low high e
+pub short_of : (d : Drafted) (c : Resident) (file : FileId) (s : Side) (low high : ℕ) (e : Short) → side_seen (seen d c (name.Entry file)) ≡ Some s → IsMissing d c file 16 0 s low high e → IsPartShort d c file low high e
 short_of d c file s low high NoMemory is m = tt
 short_of d c file s low high (Need n x) is m =
     let q = name.Part file m.level m.index in
-    let L : Name → Expect → Type 0 = λ n x. Lacks d c file low high n x in
+    let L : Name → Expect → Type 0 = λ n x. LacksPart d c file low high n x in
     let none = unknown d c q m.missing in
-    subst (λ n. L n x) (sym m.named) (subst (L q) (sym m.expected) (record {
-      over = (refl, m.covers);
+    subst (λ n. L n x) (sym m.named) (subst (L q) (sym m.expected) ((refl, m.covers), record {
       unset = none.0;
       absent = none.1;
-      needed = λ old new v pic. true_need old new d c file v m.level m.index m.hash pic (within_fits m.level m.index m.within)
-          (m.reached old v (under_of old new file v d c pic) (reached_top old new d c file v s pic is)) m.missing;
+      needed = λ old new v pic. (tt, part_wanted old new d c file v m.level m.index m.hash pic (within_fits m.level m.index m.within)
+          (m.reached old v (under_of old new file v d c pic) (reached_top old new d c file v s pic is)) m.missing);
     }))
 
 -- ---- after: parents in the table with other versions

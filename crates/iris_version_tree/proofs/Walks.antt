@@ -26,10 +26,10 @@ use Rattle.iris_cache.specs.Resident.{Resident}
 use Rattle.iris_cache.specs.Drafted.{Drafted, seen, known, there_by}
 use Rattle.iris_node.specs.Trees.{Shown}
 use Rattle.iris_cache.specs.Pictures.{IsSettled, IsLike, Holds, SideHolds, BodyHolds, IsHashOf}
-use Rattle.iris_cache.proofs.Lacking.{parent_resident, unknown}
-use Rattle.iris_cache.specs.Needs.{IsTrueNeed, IsExpected}
+use Rattle.iris_cache.proofs.Lacking.{sees_beside, unknown, wanted}
+use Rattle.iris_cache.specs.Needs.{IsWanted}
 use Rattle.iris_version_tree.specs.Versions.{Versioned, HasVersions, places}
-use Rattle.iris_version_tree.specs.Needs.{Lacks, IsLack, IsFirstLack, AreHoles}
+use Rattle.iris_version_tree.specs.Needs.{Covers, LacksPart, IsPartLack, IsFirstLack, AreHoles}
 use Rattle.iris_version_tree.specs.Sides.{part_seen, side_seen, side_of_body, side_toward}
 use Rattle.iris_version_tree.specs.Reached.{IsTwo, IsSideOf, IsLinkedSide, Reached}
 use Rattle.iris_version_tree.proofs.Levels.{over, div_step}
@@ -90,10 +90,6 @@ reached_top old new d c file v s pic is = top_reached old new d c file v s (seen
 
 -- ---- what is missing
 
-expected_by : (o : Option Unfolded) (h : Hash32) → IsSome o → IsHashOf o h → IsExpected (Hash h) o
-expected_by None h live is = absurd (let e : false ≡ true = live in cc)
-expected_by (Some u) h live is = is u refl
-
 some_part : (f l i : ℕ) (g : Fold) → IsTwo g → IsSome (part_of f l i g)
 some_part f l i (One v) two = absurd two
 some_part f l i (Two a b) two = refl
@@ -102,35 +98,21 @@ pub is_there : (o : Option Node) (x : Node) → o ≡ Some x → IsSome o
 is_there o x e = let P : Option Node → Type 0 = λ o. IsSome o in subst P (sym e) refl
 
 -- a part whose hash is held, and that is missing
-pub true_need : (old new : Shown) (d : Drafted) (c : Resident) (file : FileId) (v : ℕ → ℕ) (l i : ℕ) (h : Hash32) → Versioned old new file v d c → (i + 1) * 2 ^ l ≤ places → Reached d c file v l i (Below h)
-    → known d c (name.Part file l i) ≡ None → IsTrueNeed old new c (name.Part file l i) (Hash h)
-true_need old new d c file v l i h pic fits at k =
-    let n = name.Part file l i in
-    let two = below_two (folded v l i) h at.like in
-    let P : Option Unfolded → Type 0 = λ o. IsSome o in
-    let live : IsSome (new n) = subst P (sym (pic.versions.parts l i fits)) (some_part file.0 l i (folded v l i) two) in
-    let same = pic.drafts.away n tt k in
+pub part_wanted : (old new : Shown) (d : Drafted) (c : Resident) (file : FileId) (v : ℕ → ℕ) (l i : ℕ) (h : Hash32) → Versioned old new file v d c → (i + 1) * 2 ^ l ≤ places → Reached d c file v l i (Below h)
+    → known d c (name.Part file l i) ≡ None → IsWanted old new c (name.Part file l i) (Hash h)
+part_wanted old new d c file v l i h pic fits at k =
     let link = at.linked in
-    let none = (unknown d c n k).1 in
-    let true_hash = (pic.drafts.hashes link.parent n link.node h link.is_seen link.holds).0 (subst IsSettled (sym none) tt) in
-    record {
-      live = live;
-      expected = expected_by (old n) h (subst P same live) true_hash;
-      parent = parent_resident old new d c n link.parent pic.drafts pic.was pic.is (part_parent new file v l i link.parent pic.versions link.over fits two) (is_there (seen d c link.parent) link.node link.is_seen);
-    }
+    let over = part_parent new file v l i link.parent pic.versions link.over fits (below_two (folded v l i) h at.like) in
+    wanted old new d c (sees_beside old new None d c pic.was pic.is pic.drafts) link.parent (name.Part file l i) link.node h link.is_seen link.holds over k
 
 -- what a walk to a place lacks
 pub lacks_at : (d : Drafted) (c : Resident) (file : FileId) (place l : ℕ) (h : Hash32) → l ≤ 16 → (place / 2 ^ l + 1) * 2 ^ l ≤ places → known d c (name.Part file l (place / 2 ^ l)) ≡ None
     → ((old new : Shown) (v : ℕ → ℕ) → Versioned old new file v d c → Reached d c file v l (place / 2 ^ l) (Below h))
-    → Lacks d c file place (place + 1) (name.Part file l (place / 2 ^ l)) (Hash h)
+    → LacksPart d c file place (place + 1) (name.Part file l (place / 2 ^ l)) (Hash h)
 lacks_at d c file place l h le fits k at =
     let u = unknown d c (name.Part file l (place / 2 ^ l)) k in
-    record {
-      over = (refl, record { place = place; from = omega arith; to = omega arith; under = over l place });
-      unset = u.0;
-      absent = u.1;
-      needed = λ old new v pic. true_need old new d c file v l (place / 2 ^ l) h pic fits (at old new v pic) k;
-    }
+    let covers : Covers l (place / 2 ^ l) place (place + 1) = record { place = place; from = omega arith; to = omega arith; under = over l place } in
+    ((refl, covers), record { unset = u.0; absent = u.1; needed = λ old new v pic. (tt, part_wanted old new d c file v l (place / 2 ^ l) h pic fits (at old new v pic) k) })
 
 -- ---- one step down
 
@@ -175,14 +157,14 @@ pub no_part : (old new : Shown) (d : Drafted) (c : Resident) (file : FileId) (v 
 no_part old new d c file v l i pic fits two some none =
     no_part_by file new v l i (known d c (name.Part file l i)) some (sym none) pic.versions fits two (pic.drafts.nodes (name.Part file l i)) (pic.drafts.gone (name.Part file l i) tt)
 
-pub lack_is : (d : Drafted) (c : Resident) (file : FileId) (low high : ℕ) (e : Short) (n : Name) (x : Expect) → e ≡ Need n x → Lacks d c file low high n x → IsLack d c file low high e
-lack_is d c file low high e n x is h = let P : Short → Type 0 = λ e. IsLack d c file low high e in subst P (sym is) h
+pub lack_is : (d : Drafted) (c : Resident) (file : FileId) (low high : ℕ) (e : Short) (n : Name) (x : Expect) → e ≡ Need n x → LacksPart d c file low high n x → IsPartLack d c file low high e
+lack_is d c file low high e n x is h = let P : Short → Type 0 = λ e. IsPartLack d c file low high e in subst P (sym is) h
 
 -- a hash of a part can't stand over a single place
 pub no_floor : (v : ℕ → ℕ) (i : ℕ) (h : Hash32) → IsSideOf (folded v 0 i) (Below h) → ⊥
 no_floor v i h like = let P : Fold → Type 0 = λ g. IsSideOf g (Below h) in subst P (folded-zero v i) like
 
 -- why a search stops where its walk to a place does
-pub first_lack : (d : Drafted) (c : Resident) (file : FileId) (from place : ℕ) (e : Short) → from ≤ place → place < places → ((old new : Shown) (v : ℕ → ℕ) → Versioned old new file v d c → AreHoles v from place) → IsLack d c file place (place + 1) e → IsFirstLack d c file from e
+pub first_lack : (d : Drafted) (c : Resident) (file : FileId) (from place : ℕ) (e : Short) → from ≤ place → place < places → ((old new : Shown) (v : ℕ → ℕ) → Versioned old new file v d c → AreHoles v from place) → IsPartLack d c file place (place + 1) e → IsFirstLack d c file from e
 first_lack d c file from place (Need n x) after within holes h = record { place = place; after = after; within = within; holes = holes; lacks = h }
 first_lack d c file from place NoMemory after within holes h = absurd h

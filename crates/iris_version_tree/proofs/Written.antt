@@ -336,15 +336,18 @@ module _ (old new made : Shown) (file : FileId) (v w : ℕ → ℕ) (d e : Draft
       let g = pic.drafts.parents n p m (was n m k at) b in
       (above_same d e c n (same n k) ∙ g.0, seen_after p (other_parent new file v p n pic.is pic.versions b other) g.1))
 
+  was_tied : (n p : Name) (m : Node) → seen d c n ≡ Some m → parent_after d c n ≡ Some p → IsParent new p n
+  was_tied n p m at up = elim (pic.drafts.tied n p m at up) [ inl i ↦ i | inr below ↦ absurd below ]
+
   tied_after : (n p : Name) (m : Node) → seen e c n ≡ Some m → parent_after e c n ≡ Some p → IsParent made p n
   tied_after = by_kind (λ n. (p : Name) (m : Node) → seen e c n ≡ Some m → parent_after e c n ≡ Some p → IsParent made p n)
-      (λ p m at is. parent_forth new made file v w p (name.Entry file) pic.is pic.versions rev tt (pic.drafts.tied (name.Entry file) p (node.Entry x) wr.was (sym wr.over ∙ is)))
+      (λ p m at is. parent_forth new made file v w p (name.Entry file) pic.is pic.versions rev tt (was_tied (name.Entry file) p (node.Entry x) wr.was (sym wr.over ∙ is)))
       (λ l i some h p m at is.
       let o = (wr.under.parts l i some h).over m at in
       let z : o.0 ≡ p = (let a = sym o.1 ∙ is in cc) in
       let P : Name → Type 0 = λ q. IsParent made q (name.Part file l i) in
       subst P z (part_parent made file w l i o.0 rev.versions o.2 (within_fits l i h) (part_two l i m some h at)))
-      (λ n k p m at is. parent_forth new made file v w p n pic.is pic.versions rev (is_other n m k at) (pic.drafts.tied n p m (was n m k at) (sym (above_same d e c n (same n k)) ∙ is)))
+      (λ n k p m at is. parent_forth new made file v w p n pic.is pic.versions rev (is_other n m k at) (was_tied n p m (was n m k at) (sym (above_same d e c n (same n k)) ∙ is)))
 
   gone_after : (n : Name) → IsNodeName n → known e c n ≡ Some None → made n ≡ None
   gone_after = by_kind (λ n. IsNodeName n → known e c n ≡ Some None → made n ≡ None)
@@ -384,10 +387,12 @@ module _ (old new made : Shown) (file : FileId) (v w : ℕ → ℕ) (d e : Draft
     nodes = nodes_after;
     hashes = λ n k m h. hashes_after n k m h;
     parents = parents_after;
-    tied = tied_after;
+    tied = λ n p m at up. inl (tied_after n p m at up);
+    hangs = λ n p m at below. absurd below;
     gone = gone_after;
     away = away_after;
     resident = resident_after;
+    out = tt;
   }
 
 -- ---- what the last step of a plan writes

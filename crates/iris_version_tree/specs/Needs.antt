@@ -11,10 +11,9 @@ use Rattle.iris_node.specs.declared.node.Node.{Node}
 use Rattle.iris_node.specs.declared.node.Node.TheVariants as node
 use Rattle.iris_shape.specs.FoldLaws.{IsUnder}
 use Rattle.iris_cache.specs.declared.held.Short.{Short}
-use Rattle.iris_cache.specs.declared.held.Short.TheVariants.{Need, NoMemory}
-use Rattle.iris_cache.specs.Needs.{IsTrueNeed}
-use Rattle.iris_cache.specs.Resident.{Resident, held_node}
-use Rattle.iris_cache.specs.Drafted.{Drafted, drafted, seen}
+use Rattle.iris_cache.specs.Needs.{Lacks, StopsOnNeed, StopsShort}
+use Rattle.iris_cache.specs.Resident.{Resident}
+use Rattle.iris_cache.specs.Drafted.{Drafted, seen}
 use Rattle.iris_node.specs.Trees.{Shown}
 use Rattle.iris_version_tree.specs.Versions.{Versioned, places}
 use Rattle.iris_node.specs.Rules.{IsFileBody}
@@ -45,22 +44,21 @@ IsPartOver file low high (name.Entry id) = ⊥
 IsPartOver file low high (name.Part g level index) = (g ≡ file) × Covers level index low high
 IsPartOver file low high (name.Block g place) = ⊥
 
--- A plan over the places of a range lacks a part that covers one of them: neither draft nor cache has it.
-pub record Lacks (d : Drafted) (c : Resident) (file : FileId) (low high : ℕ) (n : Name) (x : Expect) : Type 0 where
-  pub over : IsPartOver file low high n
-  pub unset : drafted d n ≡ None
-  pub absent : held_node c n ≡ None
-  pub needed : (old new : Shown) (v : ℕ → ℕ) → Versioned old new file v d c → IsTrueNeed old new c n x
+-- A plan lacks a part that covers a place of a range.
+abbrev pub LacksPartOver : {W : Type 0} → (Shown → Shown → W → Type 0) → FileId → ℕ → ℕ → Drafted → Resident → Name → Expect → Type 0
+LacksPartOver pictured file low high d c n x = IsPartOver file low high n × Lacks pictured (λ t w m. Unit {0}) d c n x
+
+-- a plan on a file's versions lacks a part
+abbrev pub LacksPart : Drafted → Resident → FileId → ℕ → ℕ → Name → Expect → Type 0
+LacksPart d c file low high = LacksPartOver {W = ℕ → ℕ} (λ old new v. Versioned old new file v d c) file low high d c
 
 -- why a plan that takes no memory stops: it lacks a part
-abbrev pub IsLack : Drafted → Resident → FileId → ℕ → ℕ → Short → Type 0
-IsLack d c file low high (Need n x) = Lacks d c file low high n x
-IsLack d c file low high NoMemory = ⊥
+abbrev pub IsPartLack : Drafted → Resident → FileId → ℕ → ℕ → Short → Type 0
+IsPartLack d c file low high = StopsOnNeed (LacksPart d c file low high)
 
 -- why a plan stops: it lacks a part, or memory
-abbrev pub IsShort : Drafted → Resident → FileId → ℕ → ℕ → Short → Type 0
-IsShort d c file low high (Need n x) = Lacks d c file low high n x
-IsShort d c file low high NoMemory = Unit {0}
+abbrev pub IsPartShort : Drafted → Resident → FileId → ℕ → ℕ → Short → Type 0
+IsPartShort d c file low high = StopsShort (LacksPart d c file low high)
 
 -- these places are holes
 abbrev pub AreHoles : (ℕ → ℕ) → ℕ → ℕ → Type 0
@@ -77,9 +75,8 @@ pub record LacksFirst (d : Drafted) (c : Resident) (file : FileId) (from : ℕ) 
   pub after : from ≤ place
   pub within : place < places
   pub holes : (old new : Shown) (v : ℕ → ℕ) → Versioned old new file v d c → AreHoles v from place
-  pub lacks : Lacks d c file place (place + 1) n x
+  pub lacks : LacksPart d c file place (place + 1) n x
 
 -- why a search stops: it lacks a part
 abbrev pub IsFirstLack : Drafted → Resident → FileId → ℕ → Short → Type 0
-IsFirstLack d c file from (Need n x) = LacksFirst d c file from n x
-IsFirstLack d c file from NoMemory = ⊥
+IsFirstLack d c file from = StopsOnNeed (LacksFirst d c file from)

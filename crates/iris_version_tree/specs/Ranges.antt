@@ -15,8 +15,8 @@ use Rattle.iris_shape.specs.Folds.{Fold, One, Two, folded}
 use Rattle.iris_shape.specs.Sides.{part_of}
 use Rattle.iris_cache.specs.declared.held.Held.{Held}
 use Rattle.iris_cache.specs.declared.held.Short.{Short}
-use Rattle.iris_cache.specs.declared.held.Short.TheVariants.{Need, NoMemory}
 use Rattle.iris_cache.specs.declared.draft.Change.{Change}
+use Rattle.iris_cache.specs.Needs.{StopsShort}
 use Rattle.iris_cache.specs.Resident.{Resident, held_node}
 use Rattle.iris_cache.specs.Drafted.{Drafted, drafted, known, known_by, there_by}
 use Rattle.iris_node.specs.Trees.{Shown}
@@ -94,8 +94,7 @@ pub record Missing (d : Drafted) (c : Resident) (file : FileId) (l i : ℕ) (s :
 
 -- why a range isn't set
 abbrev pub IsMissing : Drafted → Resident → FileId → ℕ → ℕ → Side → ℕ → ℕ → Short → Type 0
-IsMissing d c file l i s low high (Need n x) = Missing d c file l i s low high n x
-IsMissing d c file l i s low high NoMemory = Unit {0}
+IsMissing d c file l i s low high = StopsShort (Missing d c file l i s low high)
 
 -- Two halves of versions w are joined to one side, where versions v stood.
 abbrev pub Joins : Shown → Drafted → Drafted → Resident → FileId → (ℕ → ℕ) → (ℕ → ℕ) → ℕ → ℕ → Side → Side → Side → Side → Type 0

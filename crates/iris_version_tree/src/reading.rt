@@ -3,7 +3,7 @@
 ghost use Rattle.std.specs.Prelude.{◌≡◌, ◌<◌, ◌≤◌, ◌+◌, ◌*◌, ◌/◌, ◌^◌, ℕ, IfOk, IfErr};
 ghost use Rattle.iris_node.specs.Trees.{Shown};
 ghost use Rattle.iris_version_tree.specs.Versions.{Versioned, places};
-ghost use Rattle.iris_version_tree.specs.Needs.{IsFile, IsLack, IsFirstLack, IsFirstWritten};
+ghost use Rattle.iris_version_tree.specs.Needs.{IsFile, IsPartLack, IsFirstLack, IsFirstWritten};
 
 use crate::walk::even_at;
 use iris_cache::{Cache, Draft, Short};
@@ -17,7 +17,7 @@ pub fn version_at(draft: &Draft, cache: &Cache, file: FileId, place: u32) -> Res
     requires entry { IsFile draft.now cache.now file }
     requires within { place < places }
     ensures version { IfOk result (λ x. (old new : Shown) → (v : ℕ → ℕ) → Versioned old new file v draft.now cache.now → x ≡ v place) }
-    ensures short { IfErr result (λ e. IsLack draft.now cache.now file place (place + 1) e) }
+    ensures short { IfErr result (λ e. IsPartLack draft.now cache.now file place (place + 1) e) }
 {
     Ok(even_at(draft, cache, file, place)?.version)
 }

@@ -10,7 +10,7 @@ ghost use Rattle.iris_cache.specs.Drafted.{drafted, seen, set_to};
 ghost use Rattle.iris_node.specs.Trees.{Shown, IsTree};
 ghost use Rattle.iris_cache.specs.Pictures.{parent_after, Drafts};
 ghost use Rattle.iris_version_tree.specs.Versions.{Versioned, HadVersions, Reversions, places};
-ghost use Rattle.iris_version_tree.specs.Needs.{IsFile, HasEntryWith, IsShort};
+ghost use Rattle.iris_version_tree.specs.Needs.{IsFile, HasEntryWith, IsPartShort};
 ghost use Rattle.iris_version_tree.specs.Sides.{body_with, entry_with, side_seen};
 ghost use Rattle.iris_version_tree.specs.Ranges.{Frame, IsPartWithin, Turns, IsMissing};
 
@@ -159,7 +159,7 @@ pub fn plan_set(
     ensures others { OnOk result ((n : SpecName) → (IsPartWithin file 16 0 n → ⊥) → (n ≡ Name.Entry file → ⊥) → drafted draft.new n ≡ drafted draft.old n) }
     // What was drafted stays drafted.
     ensures keeps { OnOk result ((n : SpecName) → drafted draft.new n ≡ None → drafted draft.old n ≡ None) }
-    ensures short { IfErr result (IsShort draft.old cache.now file low high) }
+    ensures short { IfErr result (IsPartShort draft.old cache.now file low high) }
 {
     let side = top_side(draft, cache, file);
     let span = Span { low, high, version };

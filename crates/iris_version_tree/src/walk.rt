@@ -7,7 +7,7 @@ ghost use Rattle.iris_shape.specs.Folds.{folded, One};
 ghost use Rattle.iris_cache.specs.Drafted.{known, seen};
 ghost use Rattle.iris_node.specs.Trees.{Shown};
 ghost use Rattle.iris_version_tree.specs.Versions.{Versioned, places};
-ghost use Rattle.iris_version_tree.specs.Needs.{IsFile, IsFileNode, IsLack};
+ghost use Rattle.iris_version_tree.specs.Needs.{IsFile, IsFileNode, IsPartLack};
 ghost use Rattle.iris_version_tree.specs.Sides.{part_seen, side_seen, side_toward};
 
 use iris_cache::{Cache, Draft, Short};
@@ -132,7 +132,7 @@ pub(crate) fn even_at(draft: &Draft, cache: &Cache, file: FileId, place: u32) ->
     requires within { place < places }
     ensures level { IfOk result (λ e. e.level ≤ 16) }
     ensures even { IfOk result (λ e. (old new : Shown) → (v : ℕ → ℕ) → Versioned old new file v draft.now cache.now → folded v e.level (place / 2 ^ e.level) ≡ One e.version) }
-    ensures short { IfErr result (λ e. IsLack draft.now cache.now file place (place + 1) e) }
+    ensures short { IfErr result (λ e. IsPartLack draft.now cache.now file place (place + 1) e) }
 {
     let mut side = top_side(draft, cache, file);
     for step in 0..16u8 {

@@ -11,7 +11,7 @@ use Rattle.iris_cache.specs.Drafted.{seen}
 use Rattle.iris_cache.specs.Resident.{held_node}
 use Rattle.iris_dirtree.specs.Rows.{Row, up}
 use Rattle.iris_dirtree.specs.Ways.{along_name, is_row_before}
-use Rattle.iris_dirtree.specs.Needs.{IsShort, ListedInHand}
+use Rattle.iris_dirtree.specs.Needs.{IsMetShort, ListedInHand}
 use Rattle.iris_dirtree.specs.Nodes.{between}
 use Rattle.iris_dirtree.specs.Grafts.{Fits, Leads, Reached, WasHash, over}
 use Rattle.iris_dirtree.specs.Splits.{IsKnown, IsSplitWay}
@@ -33,7 +33,7 @@ returns-in_err-above-clause-short c =
     let q = c.args.cache.now in
     let known = IsKnown d q c.id_of-id.result in
     let e = c.in_err-above.field-0.0 in
-    rw (r.1, r.2) (λ x. subst (λ (n : List _). IsShort (ListedInHand key dir x d q) (along_name n key) d q dir e) c.in_ok-name.ensures (short_of key c.in_ok-name.name dir x d q known (λ n h. inl h) c.in_ok-top.top c.in_ok-top.ensures.top e c.in_err-above.ensures.short))
+    rw (r.1, r.2) (λ x. subst (λ (n : List _). IsMetShort (ListedInHand key dir x d q) (along_name n key) d q dir e) c.in_ok-name.ensures (short_of key c.in_ok-name.name dir x d q known (λ n h. inl h) c.in_ok-top.top c.in_ok-top.ensures.top e c.in_err-above.ensures.short))
 
 pub returns-in_err-below-clause-short : goal.returns-in_err-below-clause-short
 returns-in_err-below-clause-short c =
@@ -49,7 +49,7 @@ returns-in_err-below-clause-short c =
     let a = c.in_ok-above.above in
     let whole = short_below (priority key) i n1 q d known (name.Entry dir) c.in_ok-top.top a.at a.path.items a.last e c.in_ok-above.ensures.reached
     (λ old rest t forks is fits. fits_around old q known d (name.Entry dir) forks rest (subst (Fits old q known d (name.Entry dir)) (sym is) fits)) c.in_err-below.ensures.short in
-    rw (r.1, r.2) (λ x. subst (λ (n : List _). IsShort (ListedInHand key dir x d q) (along_name n key) d q dir e) c.in_ok-name.ensures (short_of key n1 dir x d q known (λ n h. inl h) c.in_ok-top.top c.in_ok-top.ensures.top e whole))
+    rw (r.1, r.2) (λ x. subst (λ (n : List _). IsMetShort (ListedInHand key dir x d q) (along_name n key) d q dir e) c.in_ok-name.ensures (short_of key n1 dir x d q known (λ n h. inl h) c.in_ok-top.top c.in_ok-top.ensures.top e whole))
 
 pub returns-clause-entries : goal.returns-clause-entries
 returns-clause-entries c =

@@ -1,4 +1,4 @@
-use Rattle.std.proofs.Common.{◌≡◌, List, Some, refl, ap, sym, ◌∙◌, subst}
+use Rattle.std.proofs.Common.{◌≡◌, List, Some, None, refl, ap, sym, ◌∙◌, subst}
 use Rattle.std.proofs.lemmas.Result.{err_from_is_err_and}
 use Rattle.iris_name.specs.declared.name.FileId.{FileId}
 use Rattle.iris_name.specs.declared.name.Name.TheVariants as name
@@ -18,7 +18,7 @@ use Rattle.iris_dirtree.specs.Steps.{crumb_above}
 use Rattle.iris_dirtree.specs.Ways.{has_name, near_name}
 use Rattle.iris_dirtree.proofs.Begins.{holder, seek_start, stop_short}
 use Rattle.iris_dirtree.proofs.Seeks.{found_joining}
-use Rattle.iris_dirtree.proofs.Sees.{sees_drafts}
+use Rattle.iris_dirtree.proofs.Sees.{sees_holding}
 use Rattle.iris_dirtree.proofs.Withouts.{taken_without, once_of, distinct_without}
 use Rattle.iris_dirtree.proofs.Plants.{rising_start}
 use Rattle.iris_dirtree.proofs.Planting.{IsMade, planted, row_taken, made_stays}
@@ -32,7 +32,7 @@ found : (c : In_ok-path) (old new : Shown) (all : List Row) → Listed c.args.ke
     → FoundRow old new c.args.cache.now (treap (up c.args.keys.now.order) all) c.args.draft.now (up c.args.keys.now.order) c.args.name.now c.in_ok-path.field-0.path.items c.in_ok-path.field-0.row
 found c old new all listed =
     let key = c.args.keys.now.order in
-    let start = seek_start old new c.args.cache.now c.args.draft.now (sees_drafts old new c.args.draft.now c.args.cache.now listed.was listed.is listed.drafts) key c.args.dir all c.args.name.now c.in_ok-top.top listed.rows_are c.in_ok-top.ensures.top in
+    let start = seek_start old new c.args.cache.now c.args.draft.now (sees_holding old new None c.args.draft.now c.args.cache.now listed.was listed.is listed.drafts) key c.args.dir all c.args.name.now c.in_ok-top.top listed.rows_are c.in_ok-top.ensures.top in
     c.in_ok-path.ensures.found old new (treap (up key) all) (name.Entry c.args.dir) (up key) start
 
 -- its entry is taken away
@@ -57,7 +57,7 @@ returns-in_err-path-clause-short c =
       t = treap (up key) all;
       p = name.Entry c.args.dir;
       up = up key;
-      seeking = seek_start old new q d (sees_drafts old new d q listed.was listed.is listed.drafts) key c.args.dir all n c.in_ok-top.top listed.rows_are c.in_ok-top.ensures.top;
+      seeking = seek_start old new q d (sees_holding old new None d q listed.was listed.is listed.drafts) key c.args.dir all n c.in_ok-top.top listed.rows_are c.in_ok-top.ensures.top;
       met_is = refl;
     } in
     rw (p.1, p.2) (stop_short key c.args.dir d q (near_name n key) (Seeks d q n c.in_ok-top.top) c.in_err-path.field-0.0 seeks c.in_err-path.ensures.short)

@@ -1,7 +1,7 @@
 use Rattle.std.proofs.Common.{◌∙◌, None, Some, subst}
 use Rattle.std.proofs.lemmas.Result.{err_from_is_err_and}
 use Rattle.iris_dirtree.specs.Ways.{IsNamed, along_name}
-use Rattle.iris_dirtree.specs.Needs.{Listed, IsLack}
+use Rattle.iris_dirtree.specs.Needs.{Listed, IsMetLack}
 use Rattle.iris_paths.proofs.Welcome.{last_at, find_lacks, free, full}
 use Rattle.iris_paths.proofs.entering.place_in.Goals as goal
 
@@ -13,7 +13,7 @@ returns-in_err-plan_find-clause-short c =
     let same = c.index-names-names.is ∙ last_at c.args.names.now c.index-names-names.result c.requires.some in
     let e = c.in_err-plan_find.field-0.0 in
     rw (p.1, p.2) (λ key. find_lacks d w c.args.names.now c.args.dir c.requires.some c.requires.entered e key
-    (subst (λ n. IsLack (Listed key c.args.dir d w) (along_name n key) d w c.args.dir e) same (c.in_err-plan_find.ensures.short key)))
+    (subst (λ n. IsMetLack (Listed key c.args.dir d w) (along_name n key) d w c.args.dir e) same (c.in_err-plan_find.ensures.short key)))
 
 pub returns-in-Some-clause-place : goal.returns-in-Some-clause-place
 returns-in-Some-clause-place c =
