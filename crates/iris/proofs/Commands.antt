@@ -1,5 +1,5 @@
 -- Which command the words give.
-use Rattle.std.proofs.Common.{◌≡◌, ℕ, List, Result, Ok, Err}
+use Rattle.std.proofs.Common.{ℕ, List, Result, Ok, Err}
 use Rattle.std.specs.Prelude.{◌↔◌, IfOk}
 use Rattle.iris.specs.Commands.{HasNoCommand}
 use Rattle.iris.specs.Plain.{ArePlain, AreNotPlain}

@@ -1,6 +1,7 @@
 -- What a contract sees of a source and of a sink in memory.
-use Rattle.std.specs.Prelude.{◌≡◌, ℕ, ◌+◌, ◌-◌, ◌^◌, ◌==◌, ◌||◌, ◌++◌, nat_lt, min, Bool, true, false, List, length, drop, Result, Ok, IsErr, if◌then◌else◌}
-use Rattle.std.specs.List.{list_any}
+use Rattle.std.specs.Prelude.{ℕ, ◌+◌, ◌||◌, ◌++◌, nat_lt, min, Bool, List, length, drop, None, Result, if◌then◌else◌}
+use Rattle.iris_name.specs.declared.want.Failed.{Failed}
+use Rattle.iris_store.specs.Tally.{Answers, counted, is_to_fail}
 
 -- Which calls are to fail, counted from 1, and how many calls and faults there were.
 pub record Tally : Type 0 where
@@ -20,13 +21,9 @@ pub record Sheet : Type 0 where
   pub room : ℕ
   pub tally : Tally
 
--- one more, up to the last u64
-abbrev pub counted : ℕ → ℕ
-counted n = min (n + 1) (2 ^ 64 - 1)
-
 -- whether the next call is one that is to fail
 abbrev pub tally_fails_next : Tally → Bool
-tally_fails_next tally = list_any (λ n. n == counted tally.calls) tally.failing
+tally_fails_next tally = is_to_fail tally.failing tally.calls
 
 -- the tally after a call that failed or not
 abbrev pub tallied : Bool → Tally → Tally
@@ -50,6 +47,5 @@ after_write sheet piece = let failed = write_fails sheet piece in
     record sheet { written = (if failed then sheet.written else sheet.written ++ piece); tally = tallied failed sheet.tally }
 
 -- what a call answers that fails or not, and otherwise gives a
-abbrev pub Answers : {A E : Type 0} → Bool → A → Result A E → Type 0
-Answers true a result = IsErr result
-Answers false a result = result ≡ Ok a
+abbrev pub CallAnswers : {A : Type 0} → Bool → A → Result A Failed → Type 0
+CallAnswers failed a result = Answers (record {}) None failed a result

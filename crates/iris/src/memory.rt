@@ -2,7 +2,7 @@
 
 ghost use Rattle.std.specs.Prelude.{◌≡◌, ◌≤◌, ◌<◌, ◌||◌, ℕ, [], ◌++◌, Some, IfOk, OnOk, OnErr, length, take, drop};
 ghost use Rattle.iris_name.specs.Told.{extended};
-ghost use Rattle.iris.specs.Memory.{tally_fails_next, tallied, taken_next, after_read, write_fails, after_write, Answers};
+ghost use Rattle.iris.specs.Memory.{tally_fails_next, tallied, taken_next, after_read, write_fails, after_write, CallAnswers};
 ghost use Rattle.iris.specs.Outside.{IsPiece, IsFault};
 
 use crate::outside::{Sink, Source};
@@ -98,7 +98,7 @@ impl Source for MemSource {
         ensures piece { IfOk result (λ n. IsPiece (Some self.old.left) (Some self.new.left) (length into.old) n (take n into.new)) }
         ensures later { self.old.tally.faults ≤ self.new.tally.faults }
         ensures cause { OnErr result (IsFault self.old.tally.faults self.new.tally.faults) }
-        ensures answer { Answers (tally_fails_next self.old.tally) (taken_next self.old (length into.old)) result }
+        ensures answer { CallAnswers (tally_fails_next self.old.tally) (taken_next self.old (length into.old)) result }
         ensures tape { self.new ≡ after_read self.old (length into.old) }
         ensures into { let n = taken_next self.old (length into.old) in into.new ≡ take n self.old.left ++ drop n into.old }
     {
@@ -162,7 +162,7 @@ impl Sink for MemSink {
         ensures err { OnErr result ((n : ℕ) × (Some self.new.written ≡ extended (Some self.old.written) (take n piece.now))) }
         ensures later { self.old.tally.faults ≤ self.new.tally.faults }
         ensures cause { OnErr result (IsFault self.old.tally.faults self.new.tally.faults) }
-        ensures answer { Answers (write_fails self.old piece.now) tt result }
+        ensures answer { CallAnswers (write_fails self.old piece.now) tt result }
         ensures sheet { self.new ≡ after_write self.old piece.now }
     {
         let room = self.room as usize - self.bytes.len();

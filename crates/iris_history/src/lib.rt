@@ -1,6 +1,7 @@
 //! The definitions of a portal's histories, for every table, and the laws that make them trustworthy.
 //!
-//! Each law is the contract of a function that does nothing: it holds for every portal and every history.
+//! Each law is the contract of a function that does nothing: it holds for every portal and every history. Worked examples
+//! of each definition stand in the proofs.
 #![tactic(auto)]
 
 pub mod law;

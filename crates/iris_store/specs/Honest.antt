@@ -1,11 +1,11 @@
 -- What an honest store in memory has.
-use Rattle.std.specs.Prelude.{◌≡◌, ◌⊎◌, ℕ, ◌+◌, ◌-◌, ◌^◌, ◌==◌, min, Bool, true, false, List, Option, Result, Ok, Err, if◌then◌else◌}
-use Rattle.std.specs.List.{list_any}
+use Rattle.std.specs.Prelude.{◌≡◌, ℕ, Bool, true, false, List, Option, Some, Result, Ok, Err, if◌then◌else◌}
 use Rattle.std.specs.Map.{lookup}
 use Rattle.iris_name.specs.Names.{same_name}
 use Rattle.iris_name.specs.declared.name.Name.{Name}
 use Rattle.iris_store.specs.declared.StoreError.{StoreError}
 use Rattle.iris_store.specs.declared.StoreError.TheVariants.{Failed, NoMemory}
+use Rattle.iris_store.specs.Tally.{Answers, counted, is_to_fail}
 
 -- The records by name, the calls that are to fail, and how many calls and faults there were.
 pub record Shelf : Type 0 where
@@ -18,13 +18,9 @@ pub record Shelf : Type 0 where
 abbrev pub stored_record : Shelf → Name → Option (List ℕ)
 stored_record shelf n = lookup (same_name n) shelf.records
 
--- one more, up to the last u64
-abbrev pub counted : ℕ → ℕ
-counted n = min (n + 1) (2 ^ 64 - 1)
-
 -- whether the next call is one that is to fail
 abbrev pub fails_next : Shelf → Bool
-fails_next shelf = list_any (λ n. n == counted shelf.calls) shelf.failing
+fails_next shelf = is_to_fail shelf.failing shelf.calls
 
 -- a call was counted, and a fault where it failed
 pub record Counts (old new : Shelf) : Type 0 where
@@ -32,10 +28,9 @@ pub record Counts (old new : Shelf) : Type 0 where
   pub calls : new.calls ≡ counted old.calls
   pub faults : new.faults ≡ (if fails_next old then counted old.faults else old.faults)
 
--- what a call answers that fails or not, and otherwise gives a
-abbrev pub Answers : {A : Type 0} → Bool → A → Result A StoreError → Type 0
-Answers true a result = result ≡ Err Failed
-Answers false a result = (result ≡ Ok a) ⊎ (result ≡ Err NoMemory)
+-- what a call of the store answers that fails or not: instead of a, want of memory may come
+abbrev pub StoreAnswers : {A : Type 0} → Bool → A → Result A StoreError → Type 0
+StoreAnswers failed a result = Answers Failed (Some NoMemory) failed a result
 
 -- a failure, or nothing that failed
 abbrev pub failed_if : Bool → Result (Unit {0}) StoreError

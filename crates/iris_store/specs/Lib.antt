@@ -1,3 +1,4 @@
 pub mod Traffic
+pub mod Tally
 pub mod Honest
 pub mod Script

@@ -3,7 +3,7 @@ use Rattle.std.specs.Prelude.{◌≡◌, ◌⊎◌, ℕ, ◌-◌, ◌==◌, ◌&
 use Rattle.std.specs.Option.{option_map}
 use Rattle.iris_name.specs.Names.{same_name}
 use Rattle.iris_name.specs.declared.name.Name.{Name}
-use Rattle.iris_store.specs.Honest.{counted}
+use Rattle.iris_store.specs.Tally.{counted}
 use Rattle.iris_store.specs.declared.StoreError.{StoreError}
 use Rattle.iris_store.specs.declared.StoreError.TheVariants.{Failed, NoMemory}
 use Rattle.iris_store.specs.declared.script.Kind.{Kind}

@@ -5,7 +5,8 @@ ghost use Rattle.std.specs.Option.{option_map};
 ghost use Rattle.iris_name.specs.Names.{same_name};
 ghost use Rattle.iris_name.specs.declared.name.Name.{Name as SpecName};
 ghost use Rattle.iris_store.specs.Traffic.{after_get, after_put, after_discard, IsCaused, IsWithinLimit};
-ghost use Rattle.iris_store.specs.Honest.{Shelf, stored_record, counted, fails_next, failed_if, Counts, Answers};
+ghost use Rattle.iris_store.specs.Honest.{Shelf, stored_record, fails_next, failed_if, Counts, StoreAnswers};
+ghost use Rattle.iris_store.specs.Tally.{counted};
 
 use crate::{ANSWER_LEN, Store, StoreError};
 use indexmap::IndexMap;
@@ -87,7 +88,7 @@ impl Store for MemStore {
         ensures traffic { None ≡ after_get None name.now result }
         ensures cause { IsCaused self.old.faults self.new.faults result }
         ensures short { IsWithinLimit result }
-        ensures answer { Answers (fails_next self.old) (option_map (take ANSWER_LEN) (stored_record self.old name.now)) result }
+        ensures answer { StoreAnswers (fails_next self.old) (option_map (take ANSWER_LEN) (stored_record self.old name.now)) result }
         ensures counts { Counts self.old self.new }
         ensures records { self.new.records ≡ self.old.records }
     {
@@ -104,7 +105,7 @@ impl Store for MemStore {
     fn put(&mut self, alloc: Global, name: &Name, bytes: &[u8]) -> Result<(), StoreError>
         ensures traffic { None ≡ after_put None name.now bytes.now result }
         ensures cause { IsCaused self.old.faults self.new.faults result }
-        ensures answer { Answers (fails_next self.old) tt result }
+        ensures answer { StoreAnswers (fails_next self.old) tt result }
         ensures counts { Counts self.old self.new }
         ensures stored { (q : SpecName) → stored_record self.new q ≡ (if is_ok result && same_name name.now q then Some bytes.now else stored_record self.old q) }
     {
@@ -119,7 +120,7 @@ impl Store for MemStore {
     fn discard(&mut self, _alloc: Global, name: &Name) -> Result<(), StoreError>
         ensures traffic { None ≡ after_discard None name.now result }
         ensures cause { IsCaused self.old.faults self.new.faults result }
-        ensures answer { Answers (fails_next self.old) tt result }
+        ensures answer { StoreAnswers (fails_next self.old) tt result }
         ensures counts { Counts self.old self.new }
         ensures stored { (q : SpecName) → stored_record self.new q ≡ (if is_ok result && same_name name.now q then None else stored_record self.old q) }
     {

@@ -3,7 +3,7 @@
 ghost use Rattle.std.specs.Prelude.{◌≡◌, ◌≤◌, ◌+◌, ◌-◌, ◌^◌, min, map, None, Err, IfSome, IfNone, is_some, IsSomeAnd, filter, not, if◌then◌else◌};
 ghost use Rattle.std.specs.Option.{option_copied};
 ghost use Rattle.iris_store.specs.Traffic.{after_get, after_put, after_discard, IsCaused, IsWithinLimit};
-ghost use Rattle.iris_store.specs.Honest.{counted};
+ghost use Rattle.iris_store.specs.Tally.{counted};
 ghost use Rattle.iris_store.specs.Script.{is_for as is_for_call, fits as fits_call, is_due as is_due_at, is_spent as is_spent_at, due as due_act, left_after, left_by, waiting, IsDone, counted_by};
 
 use crate::{ANSWER_LEN, Store, StoreError};
