@@ -26,6 +26,10 @@ other_version : (given : List ℕ) → (Fits 5 given → ⊥) → Broken (call 5
 other_version given none (inl f) = none f.0
 other_version given none (inr c) = differ c.0
 
+-- what isn't live has version 0
+version_when_gone : (given : List ℕ) → Fits 0 given → Broken (call 5 ∷ call 0 ∷ []) (got 2 (Given given))
+version_when_gone given fits = inl (fits, λ was. elim was [ inl w ↦ w | inr w ↦ elim w [ inl v ↦ v | inr v ↦ v ] ])
+
 -- a put that carried the block with this version makes it none, whatever its tag was, also one noted after the get began
 abbrev put_of : ℕ → List ℕ → Note
 put_of since carried = Put 1 since n carried true
