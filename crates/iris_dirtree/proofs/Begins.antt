@@ -1,5 +1,5 @@
 -- A plan begins at a directory's topmost row.
-use Rattle.std.proofs.Common.{◌≡◌, inl, inr, ◌<◌, ℕ, List, [], Option, Some, None, IsSome, refl, ap, sym, ◌∙◌, subst, arith}
+use Rattle.std.proofs.Common.{◌≡◌, inl, inr, ◌<◌, ℕ, Bool, true, List, Option, Some, None, IsSome, refl, ap, sym, ◌∙◌, subst, arith}
 use Rattle.iris_name.specs.declared.name.FileId.{FileId}
 use Rattle.iris_name.specs.declared.name.Hash32.{Hash32}
 use Rattle.iris_name.specs.declared.name.Name.{Name}
@@ -22,18 +22,20 @@ use Rattle.iris_cache.specs.Drafted.{Drafted, seen, known, there_by}
 use Rattle.iris_cache.specs.Pictures.{Holds, BodyHolds, IsLike}
 use Rattle.iris_cache.specs.Needs.{IsWanted}
 use Rattle.iris_cache.proofs.Lacking.{unknown}
-use Rattle.iris_dirtree.specs.Descents.{IsWantedLink, WantsBelow, Seeking, IsStop}
+use Rattle.iris_dirtree.specs.Crumbs.{Seated}
+use Rattle.iris_dirtree.specs.Descents.{IsWantedLink, WantsBelow, Stands, IsStop}
 use Rattle.iris_dirtree.specs.Found.{entry_of_node, inside, body_inside}
-use Rattle.iris_dirtree.specs.Needs.{Listed, LacksMet, IsMetShort, IsDirectory}
-use Rattle.iris_dirtree.specs.Nodes.{dir_top, body_top, IsTopLack}
+use Rattle.iris_dirtree.specs.Needs.{IsMetShort}
+use Rattle.iris_dirtree.specs.Nodes.{dir_top, body_top}
 use Rattle.iris_dirtree.specs.Planted.{IsSubtreap}
 use Rattle.iris_dirtree.specs.Rows.{Row, HasRows, unfolded_rows, row_entry, up}
-use Rattle.iris_dirtree.specs.Steps.{entry_name, Seated, Outside}
+use Rattle.iris_dirtree.specs.Paths.{entry_name, Outside}
 use Rattle.iris_dirtree.proofs.Likes.{Placed, placed_rows, top_parent, above_less, above_more, roof, like_row}
 use Rattle.iris_dirtree.specs.Reached.{size}
 use Rattle.iris_dirtree.proofs.Sizes.{above_larger}
-use Rattle.iris_dirtree.proofs.Sees.{Sees, sees_holding, wanted, root_wanted}
-use Rattle.iris_dirtree.proofs.Stands.{led_named, link_holds, top_way, root_name}
+use Rattle.iris_dirtree.proofs.Sees.{Sees, wanted}
+use Rattle.iris_dirtree.proofs.There.{is_there}
+use Rattle.iris_dirtree.proofs.Stands.{led_named, link_holds, top_way}
 
 top_inside : (o : Option Node) (top : Option Link) → dir_top o ≡ Some top → top ≡ inside (entry_of_node o)
 top_inside None top h = cc
@@ -64,15 +66,15 @@ seen_known None x h = cc
 seen_known (Some o) x h = refl
 
 module _ (old new : Shown) (c : Resident) (d : Drafted) (see : Sees old new d c) where
-  module _ (t : Treap Row) where
-    pub seated_of : (w : Treap Row) (p : Name) (u : Unfolded) → Placed new w → new p ≡ Some u → IsAbove u (unfolded_rows w) → ((v : Treap Row) → IsSubtreap v w → IsSubtreap v t) → Seated old c t d p w
+  module _ (t : Treap Row) (lasts : Name → Bool) (all : (n : Name) → IsSome (seen d c n) → lasts n ≡ true) where
+    pub seated_of : (w : Treap Row) (p : Name) (u : Unfolded) → Placed new w → new p ≡ Some u → IsAbove u (unfolded_rows w) → ((v : Treap Row) → IsSubtreap v w → IsSubtreap v t) → Seated old c t lasts d p w
     seated_of Empty p u h live above within = tt
     seated_of (Over y l m) p u h live above within =
         let n = entry_name y in
         let e = unfolded_rows (Over y l m) in (
           (λ node at.
               let up = see.parents n p node at (top_parent new p u y l m live above) in
-              record { like = subst (λ o. IsLike o node) h.0 (see.nodes n node at); parent = up.0; there = up.1; hashes = λ m x holds. see.hashes n m node x at holds }),
+              record { like = subst (λ o. IsLike o node) h.0 (see.nodes n node at); parent = up.0; there = all p up.1; here = all n (is_there (seen d c n) node at); hashes = λ m x holds. see.hashes n m node x at holds }),
           (λ none. within (Over y l m) (inl refl)),
           seated_of l n e h.1 h.0 (above_less y.id y.name y.content (unfolded_rows l) (unfolded_rows m)) (λ v k. within v (inr (inl k))),
           seated_of m n e h.2 h.0 (above_more y.id y.name y.content (unfolded_rows l) (unfolded_rows m)) (λ v k. within v (inr (inr k))),
@@ -102,50 +104,29 @@ module _ (old new : Shown) (c : Resident) (d : Drafted) (see : Sees old new d c)
   top_wanted None h = tt
   top_wanted (Some l) h = h l refl
 
-  pub seek_start : (key : List ℕ) (dir : FileId) (all : List Row) (n : List ℕ) (top : Option Link) → HasRows new key dir all → dir_top (seen d c (name.Entry dir)) ≡ Some top → Seeking old new c (treap (up key) all) d (name.Entry dir) (up key) n [] top
-  seek_start key dir all n top has is =
-      let t = treap (up key) all in
+  pub stands_start : (key : List ℕ) (dir : FileId) (rows : List Row) (top : Option Link) (lasts : Name → Bool) → ((n : Name) → IsSome (seen d c n) → lasts n ≡ true) → HasRows new key dir rows → dir_top (seen d c (name.Entry dir)) ≡ Some top
+      → Stands old new c (treap (up key) rows) lasts d (name.Entry dir) top (treap (up key) rows)
+  stands_start key dir rows top lasts all has is =
+      let t = treap (up key) rows in
       let o = holder (seen d c (name.Entry dir)) top is in
-      let way = top_way old new d c see key dir all top has (seen_known (known d c (name.Entry dir)) (node.Entry o.entry) o.is) (top_inside (seen d c (name.Entry dir)) top is) in
-      let r = roof new key dir all has in
-      let placed = placed_rows new key dir all see.is has in
+      let way = top_way old new d c see key dir rows top has (seen_known (known d c (name.Entry dir)) (node.Entry o.entry) o.is) (top_inside (seen d c (name.Entry dir)) top is) in
+      let r = roof new key dir rows has in
+      let placed = placed_rows new key dir rows see.is has in
       let B : Name → Hash32 → Body → Type 0 = λ m h b. BodyHolds o.entry.id b m h in
       record {
-        front = [];
-        rest = t;
-        is = refl;
-        crumbs = tt;
-        stands = record {
-          leads = record { led_is = way.leads; hash = λ m h k. see.hashes (name.Entry dir) m (node.Entry o.entry) h o.is (inr (inr (subst (B m h) (sym o.body) k))) };
-          wanted = top_wanted top (λ l e missing. (way.stands l e).wanted missing);
-          below = wants_of t placed;
-          seated = seated_of t t (name.Entry dir) r.entry placed r.live r.above (λ v k. k);
-        };
-        met = λ r h. h;
-        inside = λ r h. h;
+        leads = record { led_is = way.leads; hash = λ m h k. see.hashes (name.Entry dir) m (node.Entry o.entry) h o.is (inr (inr (subst (B m h) (sym o.body) k))) };
+        wanted = top_wanted top (λ l e missing. (way.stands l e).wanted missing);
+        below = wants_of t placed;
+        seated = seated_of t lasts all t (name.Entry dir) r.entry placed r.live r.above (λ v k. k);
       }
 
 -- why a plan stops, with what it needs of each picture
-pub stop_short : (key : List ℕ) (dir : FileId) (d : Drafted) (c : Resident) (met : List Row → List Row) (pictured : Shown → Shown → List Row → Type 0) (e : Short)
-    → ((old new : Shown) (all : List Row) → Listed key dir d c old new all → pictured old new (met all)) → IsStop pictured d c e → IsMetShort (Listed key dir d c) met d c dir e
-stop_short key dir d c met pictured NoMemory h stop = tt
-stop_short key dir d c met pictured (Need n x) h stop =
+pub stop_short : (listed : Shown → Shown → List Row → Type 0) (dir : FileId) (d : Drafted) (c : Resident) (met : List Row → List Row) (pictured : Shown → Shown → List Row → Type 0) (e : Short)
+    → ((old new : Shown) (rows : List Row) → listed old new rows → pictured old new (met rows)) → IsStop pictured d c e → IsMetShort listed met d c dir e
+stop_short listed dir d c met pictured NoMemory h stop = tt
+stop_short listed dir d c met pictured (Need n x) h stop =
     let u = unknown d c n stop.0 in
-    record { unset = u.0; absent = u.1; needed = λ old new all pic. let r = stop.1 old new (met all) (h old new all pic) in (inr r.0, r.1) }
-
-pub top_short : (key : List ℕ) (dir : FileId) (d : Drafted) (c : Resident) (met : List Row → List Row) (e : Short) → IsTopLack d c dir e → IsMetShort (Listed key dir d c) met d c dir e
-top_short key dir d c met NoMemory lack = tt
-top_short key dir d c met (Need n x) lack =
-    let u = unknown d c n lack.2 in
-    record {
-      unset = u.0;
-      absent = u.1;
-      needed = λ old new all pic.
-          let r = roof new key dir all pic.rows_are in
-          let missing : known d c (name.Entry dir) ≡ None = ap (known d c) (sym lack.0) ∙ lack.2 in
-          let W : Name → Type 0 = λ n. IsWanted old new c n x in
-          (inl lack.0, subst W (sym lack.0) (root_wanted old new d c (sees_holding old new None d c pic.was pic.is pic.drafts) (name.Entry dir) r.entry x (root_name dir lack.1) tt r.live missing));
-    }
+    record { unset = u.0; absent = u.1; needed = λ old new rows pic. let r = stop.1 old new (met rows) (h old new rows pic) in (inr r.0, r.1) }
 
 -- ---- a directory is none of its rows
 

@@ -16,9 +16,9 @@ use Rattle.iris_node.specs.Unfolded.{Unfolded, Absent, Folder, Leaf, Even, Split
 use Rattle.iris_cache.specs.declared.held.Held.{Held}
 use Rattle.iris_cache.specs.Laws.{AreFormed, IsFormed, IsSide}
 use Rattle.iris_cache.specs.Resident.{Resident, held_node}
-use Rattle.iris_cache.specs.Pictures.{Pictures, IsLike, Holds, BodyHolds, LinkHolds}
+use Rattle.iris_cache.specs.Pictures.{Pictures, IsLike, Holds, BodyHolds, LinkHolds, WasHash}
+use Rattle.iris_cache.specs.Needs.{IsRootName}
 use Rattle.iris_dirtree.specs.Rows.{IsRooted}
-use Rattle.iris_dirtree.specs.Grafts.{WasHash}
 use Rattle.iris_dirtree.specs.Nodes.{IsLinkIn}
 use Rattle.iris_dirtree.proofs.There.{got}
 

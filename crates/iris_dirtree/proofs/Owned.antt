@@ -1,5 +1,5 @@
 -- A node that is seen stands under its own name.
-use Rattle.std.proofs.Common.{◌≡◌, inl, inr, Bool, true, false, cond, Option, Some, None, IsSome, refl, ap, sym, ◌∙◌, subst}
+use Rattle.std.proofs.Common.{◌≡◌, ◌⊎◌, inl, inr, Bool, true, false, cond, Option, Some, None, IsSome, refl, ap, sym, ◌∙◌, subst}
 use Rattle.iris_name.specs.Names.{same_name}
 use Rattle.iris_name.specs.NameLaws.{same_name-true, same_name-refl}
 use Rattle.iris_node.specs.declared.node.Link.{Link}
@@ -92,3 +92,35 @@ pub put_frame : (d e : Drafted) (c : Resident) (dir : FileId) (top : Option Link
 put_frame d e c dir top x z w p n own zx wz set off =
     let id : w.id ≡ dir = ap (λ v. v.id) wz ∙ ap (λ v. v.id) zx ∙ own in
     put_off d e p w n set (ap (λ i. same_name (name.Entry i) n) id ∙ off)
+
+-- ---- only entries are set
+
+put_case : (d e : Drafted) (p : Option Name) (x : EntryFields) (q : Name) (b : Bool) → same_name (name.Entry x.id) q ≡ b → IsPut d e p x → (drafted e q ≡ drafted d q) ⊎ (q ≡ name.Entry x.id)
+put_case d e p x q true s put = inr (sym (same_name-true (name.Entry x.id) q s))
+put_case d e p x q false s put = inl (put_off d e p x q put s)
+
+pub put_either : (d e : Drafted) (p : Option Name) (x : EntryFields) (q : Name) → IsPut d e p x → (drafted e q ≡ drafted d q) ⊎ (q ≡ name.Entry x.id)
+put_either d e p x q put = put_case d e p x q (same_name (name.Entry x.id) q) refl put
+
+pub only_none : (d : Drafted) → OnlyEntries d d
+only_none d n = inl refl
+
+pub only_more : (d e f : Drafted) (p : Option Name) (x : EntryFields) → OnlyEntries d e → IsPut e f p x → OnlyEntries d f
+only_more d e f p x h put n =
+    elim (put_either e f p x n put) [
+      | inr is ↦ inr (x.id, x, p, is, ap (λ q. drafted f q) is ∙ put_at e f p x put)
+      | inl same ↦ elim (h n) [
+        | inl e ↦ inl (same ∙ e)
+        | inr r ↦ inr (r.0, r.1, r.2, r.3, same ∙ r.4)
+      ]
+    ]
+
+pub only_through : (d e f : Drafted) → OnlyEntries d e → OnlyEntries e f → OnlyEntries d f
+only_through d e f h k n =
+    elim (k n) [
+      | inr r ↦ inr r
+      | inl s ↦ elim (h n) [
+        | inl q ↦ inl (s ∙ q)
+        | inr r ↦ inr (r.0, r.1, r.2, r.3, s ∙ r.4)
+      ]
+    ]

@@ -8,11 +8,11 @@ use Rattle.iris_shape.specs.Treap.{Treap, Empty, Over, treap, rows, rows_without
 use Rattle.iris_shape.proofs.Orders.{less_not, parts, falls, ranks, all_apart}
 use Rattle.iris_shape.proofs.Treaps.{every_of, each_left, each_right, treap_without, each_map}
 use Rattle.iris_name.specs.Hmac.{priority}
-use Rattle.iris_dirtree.specs.Descents.{IsAmong, taken}
 use Rattle.iris_dirtree.specs.Planted.{IsRowName}
 use Rattle.iris_dirtree.specs.Rows.{Row, row_id, row_name, up}
-use Rattle.iris_dirtree.specs.Steps.{entry_name, Outside, Once}
+use Rattle.iris_dirtree.specs.Paths.{entry_name, IsAmong, Outside, Once}
 use Rattle.iris_dirtree.specs.Ways.{Any, is_row_before, has_name}
+use Rattle.iris_dirtree.proofs.MergedTreaps.{taken}
 use Rattle.iris_dirtree.proofs.Downs.{less_same, any_split}
 use Rattle.iris_dirtree.proofs.Moved.{each_in, not_before}
 

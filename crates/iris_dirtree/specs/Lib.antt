@@ -5,8 +5,8 @@ pub mod Needs
 pub mod Places
 pub mod Planted
 pub mod Nodes
-pub mod Steps
-pub mod Grafts
+pub mod Paths
+pub mod Crumbs
 pub mod Splits
 pub mod Counts
 pub mod Lags
@@ -16,4 +16,5 @@ pub mod Piles
 pub mod Turns
 pub mod Below
 pub mod Descents
+pub mod Merges
 pub mod Laws

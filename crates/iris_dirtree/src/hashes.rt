@@ -7,9 +7,8 @@ ghost use Rattle.iris_node.specs.Trees.{Shown};
 ghost use Rattle.iris_cache.specs.declared.held.Held.{Held as HeldRecord};
 ghost use Rattle.iris_cache.specs.Laws.{AreFormed};
 ghost use Rattle.iris_cache.specs.Resident.{held_node};
-ghost use Rattle.iris_cache.specs.Pictures.{Pictures, LinkHolds, BodyHolds};
+ghost use Rattle.iris_cache.specs.Pictures.{Pictures, LinkHolds, BodyHolds, WasHash};
 ghost use Rattle.iris_dirtree.specs.Rows.{IsRooted};
-ghost use Rattle.iris_dirtree.specs.Grafts.{WasHash};
 ghost use Rattle.iris_dirtree.specs.Nodes.{IsLinkIn, IsLinkOf};
 
 use iris_cache::Cache;

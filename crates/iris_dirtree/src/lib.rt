@@ -9,6 +9,7 @@ pub mod kinds;
 pub mod laws;
 pub mod listing;
 mod nodes;
+mod paths;
 pub mod placing;
 mod removing;
 

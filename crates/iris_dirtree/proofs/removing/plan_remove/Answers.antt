@@ -7,7 +7,7 @@ use Rattle.iris_dirtree.specs.Planted.{Planted}
 use Rattle.iris_dirtree.specs.Rows.{Rearranges, treap_of_rows, up}
 use Rattle.iris_dirtree.specs.Ways.{has_name}
 use Rattle.iris_dirtree.proofs.Finishing.{removed}
-use Rattle.iris_dirtree.proofs.Planting.{few_inside}
+use Rattle.iris_dirtree.proofs.PlantedTreaps.{few_inside}
 use Rattle.iris_dirtree.proofs.removing.plan_remove.Goals as goal
 
 pub returns-clause-removed : goal.returns-clause-removed

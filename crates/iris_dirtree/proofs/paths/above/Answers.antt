@@ -1,7 +1,7 @@
 use Rattle.std.proofs.Common.{ap, ◌∙◌, sym}
-use Rattle.iris_dirtree.proofs.Steps.{above_last}
-use Rattle.iris_dirtree.specs.declared.removing.Crumb.{Crumb}
-use Rattle.iris_dirtree.proofs.removing.above.Goals as goal
+use Rattle.iris_dirtree.proofs.Crumbs.{above_last}
+use Rattle.iris_dirtree.specs.declared.paths.Crumb.{Crumb}
+use Rattle.iris_dirtree.proofs.paths.above.Goals as goal
 
 pub returns-in-Some : goal.returns-in-Some
 returns-in-Some c =

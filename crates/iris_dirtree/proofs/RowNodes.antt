@@ -1,7 +1,5 @@
--- Nodes set in their places, and what is seen of a treap's rows while others are set.
-use Rattle.std.proofs.Common.{◌≡◌, ◌⊎◌, ◌≤◌, ◌<◌, ◌^◌, inl, inr, ℕ, Bool, true, false, cond, List, [], ◌∷◌, Option, Some, None, refl, ap, sym, ◌∙◌, subst, arith}
-use Rattle.iris_name.specs.Names.{same_name}
-use Rattle.iris_name.specs.NameLaws.{same_name-true}
+-- Nodes of rows: what they say, the hashes that they hold, and links to them.
+use Rattle.std.proofs.Common.{◌≡◌, ◌≤◌, ◌<◌, ◌^◌, inl, inr, ℕ, Bool, true, false, cond, List, Option, Some, None, refl, ap, sym, ◌∙◌, subst, arith}
 use Rattle.iris_name.specs.declared.name.Hash32.{Hash32}
 use Rattle.iris_name.specs.declared.name.Name.{Name}
 use Rattle.iris_name.specs.declared.name.Name.TheVariants as name
@@ -13,16 +11,15 @@ use Rattle.iris_node.specs.Fields.{EntryFields}
 use Rattle.iris_node.specs.Local.{Lead, led, led_by, local, entry_local}
 use Rattle.iris_node.specs.Trees.{Shown}
 use Rattle.iris_node.specs.Unfolded.{Unfolded, Absent, id_of, blocks}
-use Rattle.iris_shape.specs.Treap.{Treap, Empty, Over}
+use Rattle.iris_shape.specs.Treap.{Treap, Over}
 use Rattle.iris_cache.specs.Resident.{Resident}
-use Rattle.iris_cache.specs.Drafted.{Drafted, drafted, seen}
-use Rattle.iris_cache.specs.Pictures.{Holds, IsLike, LinkHolds, parent_after}
+use Rattle.iris_cache.specs.Pictures.{Holds, IsLike, LinkHolds, WasHash}
 use Rattle.iris_dirtree.specs.Rows.{Row, Content, Directory, File, unfolded_rows, entry_of, row_entry}
 use Rattle.iris_dirtree.specs.Hands.{IsRowNode, HoldsTrue}
-use Rattle.iris_dirtree.specs.Nodes.{turned, between, node_blocks, LinksTo, IsPut}
-use Rattle.iris_dirtree.specs.Grafts.{Fork, entry_name, forked, around, over, InRows, Once, WasHash, Fits, Leads}
+use Rattle.iris_dirtree.specs.Nodes.{turned, between, node_blocks, LinksTo}
+use Rattle.iris_dirtree.specs.Crumbs.{Leads}
+use Rattle.iris_dirtree.specs.Paths.{Frame, framed, entry_name}
 use Rattle.iris_dirtree.proofs.Likes.{like_row}
-use Rattle.iris_dirtree.proofs.Owned.{put_off, seen_same, parent_same, put_other, put_seen, put_parent}
 use Rattle.iris_dirtree.proofs.Blocks.{like_blocks}
 
 -- ---- counts
@@ -103,85 +100,31 @@ leads_to old c y l m e h k like few links was =
       hash = λ z w holds. subst (λ n. WasHash old c n w) (sym (holds.0 ∙ ap (λ j. name.Entry (id_of j)) i)) (subst (WasHash old c (entry_name y)) (sym (holds.1 ∙ links.hash)) was);
     }
 
--- ---- what is seen once an entry is set
+-- ---- a node with a turned link
 
-put_case : (d e : Drafted) (p : Option Name) (x : EntryFields) (q : Name) (b : Bool) → same_name (name.Entry x.id) q ≡ b → IsPut d e p x → (drafted e q ≡ drafted d q) ⊎ (q ≡ name.Entry x.id)
-put_case d e p x q true s put = inr (sym (same_name-true (name.Entry x.id) q s))
-put_case d e p x q false s put = inl (put_off d e p x q put s)
+pub turned_id : (right : Bool) (k : Option Link) (e : EntryFields) → (turned right k e).id ≡ e.id
+turned_id true k e = refl
+turned_id false k e = refl
 
-pub put_either : (d e : Drafted) (p : Option Name) (x : EntryFields) (q : Name) → IsPut d e p x → (drafted e q ≡ drafted d q) ⊎ (q ≡ name.Entry x.id)
-put_either d e p x q put = put_case d e p x q (same_name (name.Entry x.id) q) refl put
+-- a node with a turned link is like its row over what that leads to
+pub turned_like : (f : Frame) (v w : Treap Row) (e : EntryFields) (k : Option Link) → IsLike (Some (unfolded_rows (framed f v))) (node.Entry e) → led_by k ≡ led (unfolded_rows w)
+    → IsLike (Some (unfolded_rows (framed f w))) (node.Entry (turned f.right k e))
+turned_like f v w e k h i = by f.right h
+  where
+    by : (r : Bool) → IsLike (Some (unfolded_rows (cond r (Over f.row f.other v) (Over f.row v f.other)))) (node.Entry e) → IsLike (Some (unfolded_rows (cond r (Over f.row f.other w) (Over f.row w f.other)))) (node.Entry (turned r k e))
+    by true g = like_turned f.row (unfolded_rows f.other) (unfolded_rows v) (unfolded_rows w) e true k g i
+    by false g = like_turned f.row (unfolded_rows v) (unfolded_rows f.other) (unfolded_rows w) e false k g i
 
--- ---- treaps that fit
+pub framed_leads : (old : Shown) (c : Resident) (f : Frame) (w : Treap Row) (e : EntryFields) (h : Hash32) (k : Link) → IsLike (Some (unfolded_rows (framed f w))) (node.Entry e) → blocks (unfolded_rows (framed f w)) < 2 ^ 64 → LinksTo e h k → WasHash old c (entry_name f.row) h
+    → Leads old c (Some k) (framed f w)
+framed_leads old c f w e h k like few to was = by f.right like few
+  where
+    by : (r : Bool) → IsLike (Some (unfolded_rows (cond r (Over f.row f.other w) (Over f.row w f.other)))) (node.Entry e) → blocks (unfolded_rows (cond r (Over f.row f.other w) (Over f.row w f.other))) < 2 ^ 64 → Leads old c (Some k) (cond r (Over f.row f.other w) (Over f.row w f.other))
+    by true g few2 = leads_to old c f.row f.other w e h k g few2 to was
+    by false g few2 = leads_to old c f.row w f.other e h k g few2 to was
 
-module _ (old : Shown) (c : Resident) (known : Name → Type 0) where
-  pub fits_frame : (d e : Drafted) (p : Name) (t : Treap Row) → ((q : Name) → InRows q t → drafted e q ≡ drafted d q) → Fits old c known d p t → Fits old c known e p t
-  fits_frame d e p Empty same h = tt
-  fits_frame d e p (Over y l m) same h =
-      let n = entry_name y in
-      let k = same n (inl refl) in (
-        (λ x at. let f = h.0 x (sym (seen_same d e c n k) ∙ at) in record { like = f.like; hangs = parent_same d e c n k ∙ f.hangs; above = f.above; hashes = f.hashes }),
-        fits_frame d e n l (λ q i. same q (inr (inl i))) h.1,
-        fits_frame d e n m (λ q i. same q (inr (inr i))) h.2,
-      )
-
-  -- an entry is set above two treaps that fit
-  pub fits_set : (d e : Drafted) (p : Name) (y : Row) (l m : Treap Row) (x : EntryFields) → name.Entry x.id ≡ entry_name y → IsPut d e (Some p) x → IsLike (Some (unfolded_rows (Over y l m))) (node.Entry x) → known p
-      → ((q : Name) (h : Hash32) → Holds (node.Entry x) q h → WasHash old c q h) → (InRows (entry_name y) l → ⊥) → (InRows (entry_name y) m → ⊥) → Fits old c known d (entry_name y) l → Fits old c known d (entry_name y) m → Fits old c known e p (Over y l m)
-  fits_set d e p y l m x id put like there hashes out_l out_m fl fm =
-      let n = entry_name y in
-      let off : (t : Treap Row) → (InRows n t → ⊥) → (q : Name) → InRows q t → drafted e q ≡ drafted d q = λ t out q i. put_other d e (Some p) x q put (λ r. out (subst (λ z. InRows z t) (r ∙ id) i)) in (
-        (λ z at.
-            let is : Some (node.Entry x) ≡ Some z = sym (put_seen d e c (Some p) x put) ∙ ap (λ i. seen e c i) id ∙ at in
-            let same : node.Entry x ≡ z = cc in
-            record {
-              like = subst (λ v. IsLike (Some (unfolded_rows (Over y l m))) v) same like;
-              hangs = ap (λ i. parent_after e c i) (sym id) ∙ put_parent d e c (Some p) x put;
-              above = there;
-              hashes = λ q h holds. hashes q h (subst (λ v. Holds v q h) (sym same) holds);
-            }),
-        fits_frame d e n l (off l out_l) fl,
-        fits_frame d e n m (off m out_m) fm,
-      )
-
-  fits_forked : (d : Drafted) (p : Name) (row : Row) (other t : Treap Row) (b : Bool) → Fits old c known d p (cond b (Over row other t) (Over row t other)) → Fits old c known d (entry_name row) t
-  fits_forked d p row other t true h = h.2
-  fits_forked d p row other t false h = h.1
-
-  -- what fits as a whole fits below
-  pub fits_around : (d : Drafted) (p : Name) (forks : List Fork) (t : Treap Row) → Fits old c known d p (around forks t) → Fits old c known d (over p forks) t
-  fits_around d p [] t h = h
-  fits_around d p (s ∷ ss) t h = fits_forked d (over p ss) s.row s.other t s.right (fits_around d p ss (forked s t) h)
-
-once_forked : (row : Row) (other t : Treap Row) (b : Bool) → Once (cond b (Over row other t) (Over row t other)) → Once t
-once_forked row other t true h = h.4
-once_forked row other t false h = h.3
-
-pub once_around : (forks : List Fork) (t : Treap Row) → Once (around forks t) → Once t
-once_around [] t h = h
-once_around (s ∷ ss) t h = once_forked s.row s.other t s.right (once_around ss (forked s t) h)
-
-in_forked : (q : Name) (row : Row) (other t : Treap Row) (b : Bool) → InRows q t → InRows q (cond b (Over row other t) (Over row t other))
-in_forked q row other t true h = inr (inr h)
-in_forked q row other t false h = inr (inl h)
-
-pub in_around : (q : Name) (forks : List Fork) (t : Treap Row) → InRows q t → InRows q (around forks t)
-in_around q [] t h = h
-in_around q (s ∷ ss) t h = in_around q ss (forked s t) (in_forked q s.row s.other t s.right h)
-
--- ---- counts of treaps
+-- ---- counts below a row
 
 pub less_over : (id : ℕ) (label : List ℕ) (c : Content) (a b : Unfolded) → (blocks a ≤ blocks (entry_of id label c a b)) × (blocks b ≤ blocks (entry_of id label c a b))
 less_over id label (Directory inside) a b = (omega arith, omega arith)
 less_over id label (File size counter versions) a b = (omega arith, omega arith)
-
-few_forked : (row : Row) (other t : Treap Row) (b : Bool) → blocks (unfolded_rows t) ≤ blocks (unfolded_rows (cond b (Over row other t) (Over row t other)))
-few_forked row other t true = (less_over row.id row.name row.content (unfolded_rows other) (unfolded_rows t)).1
-few_forked row other t false = (less_over row.id row.name row.content (unfolded_rows t) (unfolded_rows other)).0
-
-pub few_around : (forks : List Fork) (t : Treap Row) → blocks (unfolded_rows t) ≤ blocks (unfolded_rows (around forks t))
-few_around [] t = omega arith
-few_around (s ∷ ss) t =
-    let a = few_forked s.row s.other t s.right in
-    let b = few_around ss (forked s t) in
-    omega (arith, a, b)
