@@ -20,29 +20,30 @@ use Rattle.iris_cache.specs.declared.draft.Change.{Change}
 use Rattle.iris_cache.specs.Resident.{Resident, held_node}
 use Rattle.iris_cache.specs.Drafted.{Drafted, drafted, seen, known_by, set_to}
 use Rattle.iris_cache.specs.Pictures.{IsLike, WasHash, parent_after}
-use Rattle.iris_dirtree.specs.declared.paths.Crumb.{Crumb}
-use Rattle.iris_dirtree.specs.Crumbs.{Seated, Rising, crumb_above}
+use Rattle.iris_treepaths.specs.declared.paths.Crumb.{Crumb}
+use Rattle.iris_treepaths.specs.Crumbs.{Seated, Rising, crumb_above}
 use Rattle.iris_dirtree.specs.Descents.{Stands}
-use Rattle.iris_dirtree.specs.Hands.{IsRowNode, HoldsTrue}
-use Rattle.iris_dirtree.specs.Needs.{ListedInHand}
-use Rattle.iris_dirtree.specs.Nodes.{between, dir_top, LinksTo, IsPut, OnlyEntries}
-use Rattle.iris_dirtree.specs.Paths.{Frame, plug, entry_name, above, Passes, Outside, Once}
-use Rattle.iris_dirtree.specs.Planted.{Planted, IsRowName, with_top}
-use Rattle.iris_dirtree.specs.Rows.{Row, row_id, unfolded_rows, up, Rearranges, IsCountable}
+use Rattle.iris_treepaths.specs.Hands.{IsRowNode, HoldsTrue}
+use Rattle.iris_treepaths.specs.Needs.{ListedInHand}
+use Rattle.iris_treepaths.specs.Nodes.{between, dir_top, LinksTo, IsPut, OnlyEntries}
+use Rattle.iris_treepaths.specs.Paths.{Frame, plug, entry_name, above, Passes, Outside, Once}
+use Rattle.iris_treepaths.specs.Planted.{Planted, IsRowName, with_top}
+use Rattle.iris_treepaths.specs.Rows.{Row, row_id, unfolded_rows, up, Rearranges, IsCountable}
 use Rattle.iris_dirtree.specs.Splits.{Reached, IsSplit, seen_with}
-use Rattle.iris_dirtree.specs.Ways.{is_row_before}
-use Rattle.iris_dirtree.proofs.Begins.{holder, stands_start, dir_apart}
-use Rattle.iris_dirtree.proofs.Crumbs.{put_stays, seated_frame, seat_put, put_there, crumbs_above, above_lasts, crumbs_frame}
-use Rattle.iris_dirtree.proofs.Insertions.{put_fresh, put_has, put_row, put_none, put_is, insert_top, top_beaten}
-use Rattle.iris_dirtree.proofs.Likes.{roof}
-use Rattle.iris_dirtree.proofs.Owned.{put_other, stays_seen}
-use Rattle.iris_dirtree.proofs.PathLaws.{insert_plug, plug_blocks, once_plug, apart_swap}
+use Rattle.iris_treepaths.specs.Ways.{is_row_before}
+use Rattle.iris_dirtree.proofs.TreapTops.{holder, stands_start, dir_apart}
+use Rattle.iris_treepaths.proofs.Crumbs.{put_stays, seated_frame, seat_put, put_there, crumbs_above, above_lasts, crumbs_frame}
+use Rattle.iris_treepaths.proofs.RowsWith.{put_fresh, put_has, put_row, put_none, put_is}
+use Rattle.iris_dirtree.proofs.SplitTreaps.{insert_top, top_beaten}
+use Rattle.iris_treepaths.proofs.Likes.{roof}
+use Rattle.iris_treepaths.proofs.Owned.{put_other, stays_seen}
+use Rattle.iris_treepaths.proofs.PathLaws.{insert_plug, plug_blocks, once_plug, apart_swap}
 use Rattle.iris_dirtree.proofs.PlantedTreaps.{few_inside, frame_apart, top_set, planted as planted_by}
-use Rattle.iris_dirtree.proofs.RisenPaths.{Risen, rising_bare, risen, every_off, touch}
-use Rattle.iris_dirtree.proofs.RowNodes.{like_row_node, row_node_id, between_hashes, leads_to, less_over}
-use Rattle.iris_dirtree.proofs.Sees.{Sees, sees_holding, seen_resident}
-use Rattle.iris_dirtree.proofs.There.{is_there, not_both}
-use Rattle.iris_dirtree.proofs.Withouts.{outside_none, outside_not, once_of}
+use Rattle.iris_treepaths.proofs.RisenPaths.{Risen, rising_bare, risen, every_off, touch}
+use Rattle.iris_treepaths.proofs.RowNodes.{like_row_node, row_node_id, between_hashes, leads_to, less_over}
+use Rattle.iris_treepaths.proofs.Sees.{Sees, sees_holding, seen_resident}
+use Rattle.iris_treepaths.proofs.There.{is_there, not_both}
+use Rattle.iris_treepaths.proofs.RowsWithout.{outside_none, outside_not, once_of}
 
 hand_by : (old new : Shown) (d : Drafted) (c : Resident) (i : FileId) (o : Option Change) (w : Option Held) → Sees old new d c → new (name.Entry i) ≡ None → drafted d (name.Entry i) ≡ o → held_node c (name.Entry i) ≡ w → IsSome (held_node c (name.Entry i)) ⊎ (old (name.Entry i) ≡ None)
 hand_by old new d c i (Some ch) w see out de he = see.resident (name.Entry i) ch de

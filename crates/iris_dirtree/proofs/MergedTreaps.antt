@@ -15,25 +15,22 @@ use Rattle.iris_shape.specs.Treap.{Treap, Empty, Over, merge, onto, remove, way}
 use Rattle.iris_cache.specs.declared.held.Short.{Short}
 use Rattle.iris_cache.specs.Resident.{Resident}
 use Rattle.iris_cache.specs.Drafted.{Drafted, drafted, seen}
-use Rattle.iris_dirtree.specs.declared.paths.Crumb.{Crumb}
-use Rattle.iris_dirtree.specs.Crumbs.{Seated, Leads, AreCrumbs, Rising, crumb_above}
-use Rattle.iris_dirtree.specs.Descents.{FoundRow, IsStop, met_near}
+use Rattle.iris_treepaths.specs.declared.paths.Crumb.{Crumb}
+use Rattle.iris_treepaths.specs.Crumbs.{Seated, Leads, AreCrumbs, Rising, crumb_above}
+use Rattle.iris_dirtree.specs.Descents.{FoundRow, IsStop}
 use Rattle.iris_dirtree.specs.Merges.{Merging, IsMerged, Merges}
-use Rattle.iris_dirtree.specs.Nodes.{IsLinkLack, IsPut}
-use Rattle.iris_dirtree.specs.Paths.{Frame, plug, entry_name, above, IsAmong, Once}
-use Rattle.iris_dirtree.specs.Rows.{Row, unfolded_rows}
-use Rattle.iris_dirtree.specs.Ways.{is_row_before, has_name}
-use Rattle.iris_dirtree.proofs.Crumbs.{put_stays, seated_frame, seat_put, put_there, crumbs_above, above_lasts, crumbs_more}
-use Rattle.iris_dirtree.proofs.Downs.{any_left, any_right}
-use Rattle.iris_dirtree.proofs.Likes.{like_row, like_part, leads_over, leads_empty}
-use Rattle.iris_dirtree.proofs.Owned.{put_other}
-use Rattle.iris_dirtree.proofs.PathLaws.{plug_more, frame_of, once_plug, remove_plug, near_over, met_plug}
-use Rattle.iris_dirtree.proofs.RisenPaths.{every_off, touch}
+use Rattle.iris_treepaths.specs.Nodes.{IsLinkLack, IsPut}
+use Rattle.iris_treepaths.specs.Paths.{Frame, plug, entry_name, above, IsAmong, Once, met_near}
+use Rattle.iris_treepaths.specs.Rows.{Row, unfolded_rows}
+use Rattle.iris_treepaths.specs.Ways.{is_row_before, has_name}
+use Rattle.iris_treepaths.proofs.Crumbs.{put_stays, seated_frame, seat_put, put_there, crumbs_above, above_lasts, crumbs_more}
+use Rattle.iris_treepaths.proofs.Downs.{any_left, any_right}
+use Rattle.iris_treepaths.proofs.Likes.{like_row, like_part, leads_over, leads_empty}
+use Rattle.iris_treepaths.proofs.Owned.{put_other}
+use Rattle.iris_treepaths.proofs.PathLaws.{plug_more, frame_of, once_plug, remove_plug, near_over, met_plug}
+use Rattle.iris_treepaths.proofs.RisenPaths.{every_off, touch}
+use Rattle.iris_treepaths.proofs.RowsWithout.{taken}
 use Rattle.iris_dirtree.proofs.WaysDown.{stands_sides, top_row, crumb_of, stands_wanted, link_stop}
-
--- a treap without the row of a name
-abbrev pub taken : (Row → Row → Bool) → List ℕ → Treap Row → Treap Row
-taken up n t = remove up (is_row_before n) (has_name n) t
 
 module _ (old new : Shown) (c : Resident) (home : Treap Row) (lasts : Name → Bool) (d : Drafted) where
   pub merge_more : (up : Row → Row → Bool) (met : List Row) (u : Treap Row) (ks : List Crumb) (j k : Link) (e : EntryFields) (b : Bool) → ((x y : Row) → j.id ≡ id_of x.id → k.id ≡ id_of y.id → up x y ≡ b)

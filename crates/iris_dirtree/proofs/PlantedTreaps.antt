@@ -18,19 +18,19 @@ use Rattle.iris_shape.proofs.Treaps.{every_of}
 use Rattle.iris_cache.specs.Resident.{Resident, held_node}
 use Rattle.iris_cache.specs.Drafted.{Drafted, drafted, seen, known_by, there_by, set_to, taken_away}
 use Rattle.iris_cache.specs.Pictures.{Holds, BodyHolds, WasHash, parent_after}
-use Rattle.iris_dirtree.specs.Crumbs.{Leads}
-use Rattle.iris_dirtree.specs.Paths.{entry_name}
-use Rattle.iris_dirtree.specs.Planted.{IsRowName, Planted, topped, with_top}
-use Rattle.iris_dirtree.specs.Rows.{Row, HasRows, IsCountable, unfolded_rows, up}
-use Rattle.iris_dirtree.proofs.Begins.{Holder}
-use Rattle.iris_dirtree.proofs.Crumbs.{there_same, seated_frame}
-use Rattle.iris_dirtree.proofs.Likes.{roof}
-use Rattle.iris_dirtree.proofs.Owned.{seen_same, parent_same, other_name}
-use Rattle.iris_dirtree.proofs.RisenPaths.{Risen, likes_from, hang_from, stays_from, hashes_from}
-use Rattle.iris_dirtree.proofs.Rowed.{row_any}
-use Rattle.iris_dirtree.proofs.Sees.{Sees}
-use Rattle.iris_dirtree.proofs.There.{never_none}
-use Rattle.iris_dirtree.proofs.Withouts.{among_each, outside_none}
+use Rattle.iris_treepaths.specs.Crumbs.{Leads}
+use Rattle.iris_treepaths.specs.Paths.{entry_name}
+use Rattle.iris_treepaths.specs.Planted.{IsRowName, Planted, topped, with_top}
+use Rattle.iris_treepaths.specs.Rows.{Row, HasRows, IsCountable, unfolded_rows, up}
+use Rattle.iris_dirtree.proofs.TreapTops.{Holder}
+use Rattle.iris_treepaths.proofs.Crumbs.{there_same, seated_frame}
+use Rattle.iris_treepaths.proofs.Likes.{roof}
+use Rattle.iris_treepaths.proofs.Owned.{seen_same, parent_same, other_name}
+use Rattle.iris_treepaths.proofs.RisenPaths.{Risen, likes_from, hang_from, stays_from, hashes_from}
+use Rattle.iris_treepaths.proofs.Rowed.{row_any}
+use Rattle.iris_treepaths.proofs.Sees.{Sees}
+use Rattle.iris_treepaths.proofs.There.{never_none}
+use Rattle.iris_treepaths.proofs.RowsWithout.{among_each, outside_none}
 
 -- counts of what is made have 64 bits
 pub few_inside : (made : Shown) (key : List ℕ) (dir : FileId) (after : List Row) → HasRows made key dir after → IsCountable made → blocks (unfolded_rows (treap (up key) after)) < 2 ^ 64

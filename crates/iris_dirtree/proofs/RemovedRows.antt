@@ -16,28 +16,28 @@ use Rattle.iris_cache.specs.declared.draft.Change.{Change}
 use Rattle.iris_cache.specs.Resident.{Resident}
 use Rattle.iris_cache.specs.Drafted.{Drafted, drafted, seen, set_to, taken_away}
 use Rattle.iris_cache.specs.Pictures.{IsLike, parent_after}
-use Rattle.iris_dirtree.specs.declared.paths.Crumb.{Crumb}
-use Rattle.iris_dirtree.specs.Crumbs.{Rising}
+use Rattle.iris_treepaths.specs.declared.paths.Crumb.{Crumb}
+use Rattle.iris_treepaths.specs.Crumbs.{Rising}
 use Rattle.iris_dirtree.specs.Descents.{FoundRow}
-use Rattle.iris_dirtree.specs.Hands.{IsRowNode, HoldsTrue}
-use Rattle.iris_dirtree.specs.Needs.{Listed}
-use Rattle.iris_dirtree.specs.Paths.{entry_name, IsAmong, Outside}
-use Rattle.iris_dirtree.specs.Planted.{IsRowName, Planted, with_top}
-use Rattle.iris_dirtree.specs.Rows.{Row, unfolded_rows, row_entry, up}
-use Rattle.iris_dirtree.specs.Ways.{has_name, is_row_before}
-use Rattle.iris_dirtree.proofs.Begins.{Holder, dir_apart}
-use Rattle.iris_dirtree.proofs.Crumbs.{there_same}
-use Rattle.iris_dirtree.proofs.Downs.{any_right}
-use Rattle.iris_dirtree.proofs.Likes.{like_row}
-use Rattle.iris_dirtree.proofs.Owned.{seen_same, other_name}
-use Rattle.iris_dirtree.proofs.PathLaws.{rows_plug}
+use Rattle.iris_treepaths.specs.Hands.{IsRowNode, HoldsTrue}
+use Rattle.iris_treepaths.specs.Needs.{Listed}
+use Rattle.iris_treepaths.specs.Paths.{entry_name, IsAmong, Outside}
+use Rattle.iris_treepaths.specs.Planted.{IsRowName, Planted, with_top}
+use Rattle.iris_treepaths.specs.Rows.{Row, unfolded_rows, row_entry, up}
+use Rattle.iris_treepaths.specs.Ways.{has_name, is_row_before}
+use Rattle.iris_dirtree.proofs.TreapTops.{Holder, dir_apart}
+use Rattle.iris_treepaths.proofs.Crumbs.{there_same}
+use Rattle.iris_treepaths.proofs.Downs.{any_right}
+use Rattle.iris_treepaths.proofs.Likes.{like_row}
+use Rattle.iris_treepaths.proofs.Owned.{seen_same, other_name}
+use Rattle.iris_treepaths.proofs.PathLaws.{rows_plug}
 use Rattle.iris_dirtree.proofs.PlantedTreaps.{frame_apart, set_seen, top_set, planted as planted_by}
-use Rattle.iris_dirtree.proofs.RisenPaths.{risen}
-use Rattle.iris_dirtree.proofs.RowNodes.{like_between}
-use Rattle.iris_dirtree.proofs.Rowed.{row_any}
-use Rattle.iris_dirtree.proofs.Sees.{Sees, sees_holding, seen_resident}
-use Rattle.iris_dirtree.proofs.There.{is_there}
-use Rattle.iris_dirtree.proofs.Withouts.{gone_one, only, any_without, apart_without, is_it, named_parts, outside_none, outside_not, any_named}
+use Rattle.iris_treepaths.proofs.RisenPaths.{risen}
+use Rattle.iris_treepaths.proofs.RowNodes.{like_between}
+use Rattle.iris_treepaths.proofs.Rowed.{row_any}
+use Rattle.iris_treepaths.proofs.Sees.{Sees, sees_holding, seen_resident}
+use Rattle.iris_treepaths.proofs.There.{is_there}
+use Rattle.iris_treepaths.proofs.RowsWithout.{gone_one, only, any_without, apart_without, is_it, named_parts, outside_none, outside_not, any_named}
 
 -- ---- one name changed
 

@@ -1,6 +1,7 @@
 -- The way down a treap that a name splits.
 use Rattle.std.proofs.Common.{◌≡◌, ◌&&◌, not, inl, ◌++◌, ℕ, Bool, true, false, cond, List, [], ◌∷◌, Option, Some, None, refl, ap, sym, ◌∙◌, subst}
 use Rattle.iris_name.specs.declared.name.FileId.{FileId}
+use Rattle.std.proofs.lemmas.Bool.{cond-true}
 use Rattle.iris_name.specs.declared.name.Name.{Name}
 use Rattle.iris_name.specs.declared.name.Name.TheVariants as name
 use Rattle.iris_node.specs.declared.node.Link.{Link}
@@ -13,16 +14,16 @@ use Rattle.iris_shape.specs.Order.{less_name, beats}
 use Rattle.iris_cache.specs.declared.held.Short.{Short}
 use Rattle.iris_cache.specs.Resident.{Resident}
 use Rattle.iris_cache.specs.Drafted.{Drafted, seen}
-use Rattle.iris_dirtree.specs.declared.paths.Crumb.{Crumb}
-use Rattle.iris_dirtree.specs.Descents.{Stands, IsStop, met_along}
-use Rattle.iris_dirtree.specs.Nodes.{link_toward, IsLinkLack}
-use Rattle.iris_dirtree.specs.Paths.{plug, entry_name, IsAmong}
-use Rattle.iris_dirtree.specs.Rows.{Row, unfolded_rows}
+use Rattle.iris_treepaths.specs.declared.paths.Crumb.{Crumb}
+use Rattle.iris_dirtree.specs.Descents.{Stands, IsStop}
+use Rattle.iris_treepaths.specs.Nodes.{link_toward, IsLinkLack}
+use Rattle.iris_treepaths.specs.Paths.{plug, entry_name, IsAmong, met_along}
+use Rattle.iris_treepaths.specs.Rows.{Row, unfolded_rows}
 use Rattle.iris_dirtree.specs.Splits.{TopBelow, Splitting, IsSplit, Splits}
-use Rattle.iris_dirtree.specs.Ways.{is_row_before}
-use Rattle.iris_dirtree.proofs.Crumbs.{crumbs_more}
-use Rattle.iris_dirtree.proofs.Likes.{leads_over, leads_empty}
-use Rattle.iris_dirtree.proofs.PathLaws.{plug_more, frame_of, low_framed, high_framed, along_over}
+use Rattle.iris_treepaths.specs.Ways.{is_row_before}
+use Rattle.iris_treepaths.proofs.Crumbs.{crumbs_more}
+use Rattle.iris_treepaths.proofs.Likes.{leads_over, leads_empty}
+use Rattle.iris_treepaths.proofs.PathLaws.{plug_more, frame_of, low_framed, high_framed, along_over}
 use Rattle.iris_dirtree.proofs.WaysDown.{stands_toward, top_row, crumb_of, passes, stands_wanted, link_stop}
 
 -- ---- where the entry of an id is to stand
@@ -34,6 +35,13 @@ top_below prio i rest l led h =
 
 pub empty_below : (prio : ℕ → ℕ) (i : FileId) (rest : Treap Row) → led_by None ≡ led (unfolded_rows rest) → TopBelow prio i rest
 empty_below prio i rest led = subst (TopBelow prio i) (sym (leads_empty rest led)) tt
+
+pub insert_top : (up : Row → Row → Bool) (p : Row → Bool) (x : Row) (t : Treap Row) → ((y : Row) (l m : Treap Row) → t ≡ Over y l m → up x y ≡ true) → insert up p x t ≡ Over x (low p t) (high p t)
+insert_top up p x Empty h = refl
+insert_top up p x (Over y l m) h = cond-true (up x y) (Over x (low p (Over y l m)) (high p (Over y l m))) (cond (p y) (Over y l (insert up p x m)) (Over y (insert up p x l) m)) (h y l m refl)
+
+pub top_beaten : (prio : ℕ → ℕ) (i : FileId) (x : Row) (t : Treap Row) → i.0 ≡ x.id → TopBelow prio i t → (y : Row) (l m : Treap Row) → t ≡ Over y l m → beats prio x.id y.id ≡ true
+top_beaten prio i x t e h y l m is = ap (λ j. beats prio j y.id) (sym e) ∙ subst (TopBelow prio i) is h
 
 -- ---- the way down
 

@@ -16,18 +16,18 @@ use Rattle.iris_cache.specs.declared.held.Short.TheVariants.{Need, NoMemory}
 use Rattle.iris_cache.specs.Resident.{Resident}
 use Rattle.iris_cache.specs.Drafted.{Drafted, known, seen}
 use Rattle.iris_cache.specs.Pictures.{WasHash}
-use Rattle.iris_dirtree.specs.declared.paths.Crumb.{Crumb}
-use Rattle.iris_dirtree.specs.Crumbs.{IsCrumb}
+use Rattle.iris_treepaths.specs.declared.paths.Crumb.{Crumb}
+use Rattle.iris_treepaths.specs.Crumbs.{IsCrumb}
 use Rattle.iris_dirtree.specs.Descents.{Stands, Walked, FoundRow, IsStop, Walks}
 use Rattle.iris_cache.specs.Needs.{IsWanted}
-use Rattle.iris_dirtree.specs.Nodes.{link_toward, IsLinkLack}
-use Rattle.iris_dirtree.specs.Paths.{Frame, plug, entry_name, above, Passes, IsAmong}
-use Rattle.iris_dirtree.specs.Rows.{Row, unfolded_rows}
-use Rattle.iris_dirtree.specs.Ways.{Any, is_row_before, has_name}
-use Rattle.iris_dirtree.proofs.Crumbs.{crumbs_more}
-use Rattle.iris_dirtree.proofs.Likes.{like_row, leads_over}
-use Rattle.iris_dirtree.proofs.PathLaws.{plug_more, above_end, each_more, frame_of, frame_is}
-use Rattle.iris_dirtree.proofs.Rowed.{row_any}
+use Rattle.iris_treepaths.specs.Nodes.{link_toward, IsLinkLack}
+use Rattle.iris_treepaths.specs.Paths.{Frame, plug, entry_name, above, Passes, IsAmong}
+use Rattle.iris_treepaths.specs.Rows.{Row, unfolded_rows}
+use Rattle.iris_treepaths.specs.Ways.{Any, is_row_before, has_name}
+use Rattle.iris_treepaths.proofs.Crumbs.{crumbs_more}
+use Rattle.iris_treepaths.proofs.Likes.{like_row, leads_over}
+use Rattle.iris_treepaths.proofs.PathLaws.{plug_more, above_end, each_more, frame_of, frame_is}
+use Rattle.iris_treepaths.proofs.Rowed.{row_any}
 
 module _ (old new : Shown) (c : Resident) (home : Treap Row) (lasts : Name → Bool) (d : Drafted) where
   -- ---- one step down

@@ -7,17 +7,17 @@ use Rattle.iris_node.specs.declared.node.Link.{Link}
 use Rattle.iris_node.specs.declared.node.Node.TheVariants as node
 use Rattle.iris_node.specs.Fields.{EntryFields}
 use Rattle.iris_node.specs.Trees.{Shown}
-use Rattle.iris_shape.specs.Treap.{Treap, Empty, Over, Each, near}
+use Rattle.iris_shape.specs.Treap.{Treap, Empty, Over, Each}
 use Rattle.iris_cache.specs.declared.held.Short.{Short}
 use Rattle.iris_cache.specs.declared.held.Short.TheVariants.{Need, NoMemory}
 use Rattle.iris_cache.specs.Resident.{Resident}
 use Rattle.iris_cache.specs.Drafted.{Drafted, known, seen}
-use Rattle.iris_dirtree.specs.declared.paths.Crumb.{Crumb}
-use Rattle.iris_dirtree.specs.Crumbs.{Seat, Seated, Leads, AreCrumbs}
+use Rattle.iris_treepaths.specs.declared.paths.Crumb.{Crumb}
+use Rattle.iris_treepaths.specs.Crumbs.{Seat, Seated, Leads, AreCrumbs}
 use Rattle.iris_cache.specs.Needs.{IsWanted}
-use Rattle.iris_dirtree.specs.Paths.{Frame, plug, entry_name, above, Passes}
-use Rattle.iris_dirtree.specs.Rows.{Row, unfolded_rows, row_entry}
-use Rattle.iris_dirtree.specs.Ways.{Any, along, is_row_before, has_name}
+use Rattle.iris_treepaths.specs.Paths.{Frame, plug, entry_name, above, Passes}
+use Rattle.iris_treepaths.specs.Rows.{Row, unfolded_rows, row_entry}
+use Rattle.iris_treepaths.specs.Ways.{Any, has_name}
 
 -- where the entry to which a link leads is missing, it is wanted
 abbrev pub IsWantedLink : Shown → Shown → Resident → Drafted → Option Link → Type 0
@@ -37,14 +37,6 @@ pub record Stands (old new : Shown) (c : Resident) (home : Treap Row) (lasts : N
   pub wanted : IsWantedLink old new c d link
   pub below : WantsBelow old new c d w
   pub seated : Seated old c home lasts d q w
-
--- the rows met on going down towards a name
-abbrev pub met_along : List ℕ → Treap Row → List Row
-met_along n t = along (is_row_before n) (has_name n) t
-
--- the rows met on going down to a name, and from its row to its neighbours
-abbrev pub met_near : List ℕ → Treap Row → List Row
-met_near n t = near (is_row_before n) (has_name n) t
 
 -- On the way down a treap towards a name, crumbs were kept of the rows met, and a link leads on.
 pub record Walked (old new : Shown) (c : Resident) (lasts : Name → Bool) (d : Drafted) (p : Name) (n : List ℕ) (t : Treap Row) (kept : List Crumb) (link : Option Link) : Type 0 where

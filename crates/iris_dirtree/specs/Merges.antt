@@ -6,11 +6,11 @@ use Rattle.iris_node.specs.Trees.{Shown}
 use Rattle.iris_shape.specs.Treap.{Treap, merge, way}
 use Rattle.iris_cache.specs.Resident.{Resident}
 use Rattle.iris_cache.specs.Drafted.{Drafted}
-use Rattle.iris_dirtree.specs.declared.paths.Crumb.{Crumb}
-use Rattle.iris_dirtree.specs.Crumbs.{Seated, Leads, AreCrumbs}
+use Rattle.iris_treepaths.specs.declared.paths.Crumb.{Crumb}
+use Rattle.iris_treepaths.specs.Crumbs.{Seated, Leads, AreCrumbs}
 use Rattle.iris_dirtree.specs.Descents.{Stands}
-use Rattle.iris_dirtree.specs.Paths.{Frame, plug, IsAmong}
-use Rattle.iris_dirtree.specs.Rows.{Row}
+use Rattle.iris_treepaths.specs.Paths.{Frame, plug, IsAmong}
+use Rattle.iris_treepaths.specs.Rows.{Row}
 
 -- On the way down two treaps that are to be merged to the treap u, crumbs were kept of the rows met, and links lead on.
 pub record Merging (old new : Shown) (c : Resident) (home : Treap Row) (lasts : Name → Bool) (d : Drafted) (up : Row → Row → Bool) (met : List Row) (u : Treap Row) (kept : List Crumb) (less more : Option Link) : Type 0 where

@@ -10,12 +10,12 @@ use Rattle.iris_shape.specs.Order.{beats}
 use Rattle.iris_shape.specs.Treap.{Treap, Empty, Over, Each, low, high}
 use Rattle.iris_cache.specs.Resident.{Resident}
 use Rattle.iris_cache.specs.Drafted.{Drafted, seen}
-use Rattle.iris_dirtree.specs.declared.paths.Crumb.{Crumb}
-use Rattle.iris_dirtree.specs.Crumbs.{AreCrumbs}
-use Rattle.iris_dirtree.specs.Descents.{Stands, Walked, met_along}
-use Rattle.iris_dirtree.specs.Paths.{Frame, plug, IsAmong}
-use Rattle.iris_dirtree.specs.Rows.{Row}
-use Rattle.iris_dirtree.specs.Ways.{is_row_before}
+use Rattle.iris_treepaths.specs.declared.paths.Crumb.{Crumb}
+use Rattle.iris_treepaths.specs.Crumbs.{AreCrumbs}
+use Rattle.iris_dirtree.specs.Descents.{Stands, Walked}
+use Rattle.iris_treepaths.specs.Paths.{Frame, plug, IsAmong, met_along}
+use Rattle.iris_treepaths.specs.Rows.{Row}
+use Rattle.iris_treepaths.specs.Ways.{is_row_before}
 
 -- an id's entry is to stand above a treap
 abbrev pub TopBelow : (ℕ → ℕ) → FileId → Treap Row → Type 0

@@ -9,25 +9,26 @@ ghost use Rattle.iris_node.specs.Trees.{Shown, IsTree};
 ghost use Rattle.iris_shape.specs.Treap.{Treap, treap, rows_with};
 ghost use Rattle.iris_cache.specs.Drafted.{drafted, seen};
 ghost use Rattle.iris_cache.specs.Pictures.{Drafts};
-ghost use Rattle.iris_dirtree.specs.Counts.{IsEntryName};
-ghost use Rattle.iris_dirtree.specs.Crumbs.{AreNamed};
-ghost use Rattle.iris_dirtree.specs.Descents.{Stands, IsStop, Walks, met_along};
-ghost use Rattle.iris_dirtree.specs.Rows.{Row, Rearranges, IsCountable, up};
-ghost use Rattle.iris_dirtree.specs.Ways.{is_row_before, along_name};
-ghost use Rattle.iris_dirtree.specs.Hands.{IsRowNode, HoldsTrue};
-ghost use Rattle.iris_dirtree.specs.Needs.{IsDirectory, ListedInHand, IsMetShort};
-ghost use Rattle.iris_dirtree.specs.Planted.{Planted};
-ghost use Rattle.iris_dirtree.specs.Nodes.{between, LinksTo, IsPut, OnlyEntries};
+ghost use Rattle.iris_treepaths.specs.Paths.{met_along};
+ghost use Rattle.iris_treepaths.specs.Counts.{IsEntryName};
+ghost use Rattle.iris_treepaths.specs.Crumbs.{AreNamed};
+ghost use Rattle.iris_dirtree.specs.Descents.{Stands, IsStop, Walks};
+ghost use Rattle.iris_treepaths.specs.Rows.{Row, Rearranges, IsCountable, up};
+ghost use Rattle.iris_treepaths.specs.Ways.{is_row_before, along_name};
+ghost use Rattle.iris_treepaths.specs.Hands.{IsRowNode, HoldsTrue};
+ghost use Rattle.iris_treepaths.specs.Needs.{IsDirectory, ListedInHand, IsMetShort};
+ghost use Rattle.iris_treepaths.specs.Planted.{Planted};
+ghost use Rattle.iris_treepaths.specs.Nodes.{between, LinksTo, IsPut, OnlyEntries};
 ghost use Rattle.iris_dirtree.specs.Splits.{Reached, IsSplit, Splits};
 
-use crate::counting::recount;
+use iris_treepaths::recount;
 use crate::finding::longest_way;
-use crate::hashes::hash_held;
-use crate::nodes::{
+use iris_treepaths::hashes::hash_held;
+use iris_treepaths::nodes::{
     between, copy_name, entry_at, hang, id_of, is_named, set_top, side, stands_above,
     stands_before, top_of,
 };
-use crate::paths::{Crumb, above, climb, keep};
+use iris_treepaths::paths::{Crumb, above, climb, keep};
 use iris_cache::{Cache, Draft, Short};
 use iris_mac::{Keys, priority};
 use iris_name::{FileId, Hash32, NoMemory, Text};

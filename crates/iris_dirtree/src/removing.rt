@@ -9,23 +9,24 @@ ghost use Rattle.iris_node.specs.Trees.{IsTree, Shown};
 ghost use Rattle.iris_node.specs.Unfolded.{blocks};
 ghost use Rattle.iris_shape.specs.Treap.{Treap, treap, rows_without};
 ghost use Rattle.iris_cache.specs.Drafted.{drafted, seen};
-ghost use Rattle.iris_dirtree.specs.Counts.{IsEntryName};
-ghost use Rattle.iris_dirtree.specs.Crumbs.{AreNamed};
-ghost use Rattle.iris_dirtree.specs.Descents.{Stands, FoundRow, IsStop, Walks, met_near};
-ghost use Rattle.iris_dirtree.specs.Hands.{Holding, HoldsTrue, IsRowNode};
+ghost use Rattle.iris_treepaths.specs.Paths.{met_near};
+ghost use Rattle.iris_treepaths.specs.Counts.{IsEntryName};
+ghost use Rattle.iris_treepaths.specs.Crumbs.{AreNamed};
+ghost use Rattle.iris_dirtree.specs.Descents.{Stands, FoundRow, IsStop, Walks};
+ghost use Rattle.iris_treepaths.specs.Hands.{Holding, HoldsTrue, IsRowNode};
 ghost use Rattle.iris_dirtree.specs.Merges.{Merging, IsMerged, Merges};
-ghost use Rattle.iris_dirtree.specs.Needs.{IsDirectory, IsMetShort, Listed};
-ghost use Rattle.iris_dirtree.specs.Nodes.{IsPut, OnlyEntries, between};
-ghost use Rattle.iris_dirtree.specs.Planted.{Planted};
-ghost use Rattle.iris_dirtree.specs.Rows.{IsCountable, Rearranges, Row, treap_of_rows, up};
-ghost use Rattle.iris_dirtree.specs.Ways.{Any, has_name, near_name};
+ghost use Rattle.iris_treepaths.specs.Needs.{IsDirectory, IsMetShort, Listed};
+ghost use Rattle.iris_treepaths.specs.Nodes.{IsPut, OnlyEntries, between};
+ghost use Rattle.iris_treepaths.specs.Planted.{Planted};
+ghost use Rattle.iris_treepaths.specs.Rows.{IsCountable, Rearranges, Row, treap_of_rows, up};
+ghost use Rattle.iris_treepaths.specs.Ways.{Any, has_name, near_name};
 
-use crate::counting::recount;
+use iris_treepaths::recount;
 use crate::finding::longest_way;
-use crate::nodes::{
+use iris_treepaths::nodes::{
     copy_entry, entry_at, is_named, set_top, side, stands_above, stands_before, top_of,
 };
-use crate::paths::{Crumb, above, climb, keep};
+use iris_treepaths::paths::{Crumb, above, climb, keep};
 use iris_cache::{Cache, Draft, Short};
 use iris_mac::{Keys, priority};
 use iris_name::{FileId, Name, NoMemory, Text};

@@ -11,12 +11,12 @@ use Rattle.iris_node.specs.Trees.{Shown}
 use Rattle.iris_node.specs.declared.node.Link.{Link}
 use Rattle.iris_shape.specs.Order.{less_name, beats}
 use Rattle.iris_shape.specs.Treap.{Treap, Each}
-use Rattle.iris_dirtree.specs.declared.paths.Crumb.{Crumb}
-use Rattle.iris_dirtree.specs.Crumbs.{AreNamed}
-use Rattle.iris_dirtree.specs.Descents.{Stands, Walked, met_along}
-use Rattle.iris_dirtree.specs.Paths.{Frame}
-use Rattle.iris_dirtree.specs.Rows.{Row}
-use Rattle.iris_dirtree.proofs.PathLaws.{each_more, met_plug, along_over}
+use Rattle.iris_treepaths.specs.declared.paths.Crumb.{Crumb}
+use Rattle.iris_treepaths.specs.Crumbs.{AreNamed}
+use Rattle.iris_dirtree.specs.Descents.{Stands, Walked}
+use Rattle.iris_treepaths.specs.Paths.{Frame, met_along}
+use Rattle.iris_treepaths.specs.Rows.{Row}
+use Rattle.iris_treepaths.proofs.PathLaws.{each_more, met_plug, along_over}
 use Rattle.iris_dirtree.proofs.SplitTreaps.{top_below, empty_below}
 use Rattle.iris_dirtree.proofs.WaysDown.{walked_start, walked_more, walk_stop}
 use Rattle.iris_dirtree.proofs.inserting.find_seat.Goals as goal

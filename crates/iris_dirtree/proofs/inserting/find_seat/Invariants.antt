@@ -5,10 +5,10 @@ use Rattle.iris_node.specs.Rules.{IsLinkToNamed}
 use Rattle.iris_node.specs.Trees.{Shown}
 use Rattle.iris_shape.specs.Order.{beats}
 use Rattle.iris_shape.specs.Treap.{Treap, Each}
-use Rattle.iris_dirtree.specs.Crumbs.{AreNamed}
+use Rattle.iris_treepaths.specs.Crumbs.{AreNamed}
 use Rattle.iris_dirtree.specs.Descents.{Stands, Walked}
-use Rattle.iris_dirtree.specs.Paths.{Frame}
-use Rattle.iris_dirtree.specs.Rows.{Row}
+use Rattle.iris_treepaths.specs.Paths.{Frame}
+use Rattle.iris_treepaths.specs.Rows.{Row}
 use Rattle.iris_dirtree.proofs.inserting.find_seat.Given as goal
 
 abbrev pub invariant-loop-step : goal.invariant-loop-step

@@ -10,22 +10,22 @@ use Rattle.iris_shape.specs.Treap.{Treap, treap, rows_with}
 use Rattle.iris_cache.specs.Drafted.{seen}
 use Rattle.iris_cache.specs.Pictures.{WasHash}
 use Rattle.iris_cache.specs.Resident.{held_node}
-use Rattle.iris_dirtree.specs.Crumbs.{Rising, crumb_above}
-use Rattle.iris_dirtree.specs.Descents.{Stands, Walks, met_along}
-use Rattle.iris_dirtree.specs.Needs.{IsMetShort, ListedInHand}
-use Rattle.iris_dirtree.specs.Nodes.{between}
-use Rattle.iris_dirtree.specs.Paths.{above, IsAmong}
-use Rattle.iris_dirtree.specs.Rows.{Row, up}
+use Rattle.iris_treepaths.specs.Crumbs.{Rising, crumb_above}
+use Rattle.iris_dirtree.specs.Descents.{Stands, Walks}
+use Rattle.iris_treepaths.specs.Needs.{IsMetShort, ListedInHand}
+use Rattle.iris_treepaths.specs.Nodes.{between}
+use Rattle.iris_treepaths.specs.Paths.{above, IsAmong, met_along}
+use Rattle.iris_treepaths.specs.Rows.{Row, up}
 use Rattle.iris_dirtree.specs.Splits.{Reached, Splits, seen_with}
-use Rattle.iris_dirtree.specs.Ways.{along_name, is_row_before}
-use Rattle.iris_dirtree.proofs.Begins.{holder, stands_start, stop_short}
+use Rattle.iris_treepaths.specs.Ways.{along_name, is_row_before}
+use Rattle.iris_dirtree.proofs.TreapTops.{holder, stands_start, stop_short}
 use Rattle.iris_dirtree.proofs.InsertedRows.{Tables, see, stands, once_now, few, once_low, once_high, few_low, few_high, lower, higher, low_rising, high_rising, seat_rising, planted, hand_hash, seen_lasts, comes_lasts}
-use Rattle.iris_dirtree.proofs.Owned.{put_seen, stays_seen, only_none, only_more, only_through}
-use Rattle.iris_dirtree.proofs.PathLaws.{met_plug, along_over}
-use Rattle.iris_dirtree.proofs.RisenPaths.{risen}
-use Rattle.iris_dirtree.proofs.RowNodes.{row_node_id}
-use Rattle.iris_dirtree.proofs.Sees.{sees_holding}
-use Rattle.iris_dirtree.proofs.There.{is_there}
+use Rattle.iris_treepaths.proofs.Owned.{put_seen, stays_seen, only_none, only_more, only_through}
+use Rattle.iris_treepaths.proofs.PathLaws.{met_plug, along_over}
+use Rattle.iris_treepaths.proofs.RisenPaths.{risen}
+use Rattle.iris_treepaths.proofs.RowNodes.{row_node_id}
+use Rattle.iris_treepaths.proofs.Sees.{sees_holding}
+use Rattle.iris_treepaths.proofs.There.{is_there}
 use Rattle.iris_dirtree.proofs.inserting.plant.Goals as goal
 use Rattle.iris_dirtree.proofs.inserting.plant.Goals.{In_ok-top}
 

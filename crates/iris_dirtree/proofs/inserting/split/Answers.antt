@@ -9,12 +9,12 @@ use Rattle.iris_node.specs.Trees.{Shown}
 use Rattle.iris_node.specs.declared.node.Link.{Link}
 use Rattle.iris_shape.specs.Order.{less_name}
 use Rattle.iris_shape.specs.Treap.{Treap}
-use Rattle.iris_dirtree.specs.declared.paths.Crumb.{Crumb}
-use Rattle.iris_dirtree.specs.Crumbs.{AreNamed}
+use Rattle.iris_treepaths.specs.declared.paths.Crumb.{Crumb}
+use Rattle.iris_treepaths.specs.Crumbs.{AreNamed}
 use Rattle.iris_dirtree.specs.Descents.{Stands}
-use Rattle.iris_dirtree.specs.Rows.{Row}
+use Rattle.iris_treepaths.specs.Rows.{Row}
 use Rattle.iris_dirtree.specs.Splits.{Splitting}
-use Rattle.iris_dirtree.proofs.PathLaws.{each_more}
+use Rattle.iris_treepaths.proofs.PathLaws.{each_more}
 use Rattle.iris_dirtree.proofs.SplitTreaps.{split_start, split_more, split_end, split_stop}
 use Rattle.iris_dirtree.proofs.inserting.split.Goals as goal
 

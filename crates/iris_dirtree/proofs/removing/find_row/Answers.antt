@@ -8,11 +8,12 @@ use Rattle.iris_node.specs.Trees.{Shown}
 use Rattle.iris_shape.specs.Order.{less_name}
 use Rattle.iris_shape.specs.Treap.{Treap}
 use Rattle.iris_node.specs.declared.node.Link.{Link}
-use Rattle.iris_dirtree.specs.declared.paths.Crumb.{Crumb}
-use Rattle.iris_dirtree.specs.Crumbs.{AreNamed}
-use Rattle.iris_dirtree.specs.Descents.{Stands, Walked, met_near}
-use Rattle.iris_dirtree.specs.Rows.{Row}
-use Rattle.iris_dirtree.proofs.PathLaws.{each_more, met_plug, near_over}
+use Rattle.iris_treepaths.specs.Paths.{met_near}
+use Rattle.iris_treepaths.specs.declared.paths.Crumb.{Crumb}
+use Rattle.iris_treepaths.specs.Crumbs.{AreNamed}
+use Rattle.iris_dirtree.specs.Descents.{Stands, Walked}
+use Rattle.iris_treepaths.specs.Rows.{Row}
+use Rattle.iris_treepaths.proofs.PathLaws.{each_more, met_plug, near_over}
 use Rattle.iris_dirtree.proofs.WaysDown.{walked_start, walked_more, walked_found, walk_stop}
 use Rattle.iris_dirtree.proofs.removing.find_row.Goals as goal
 

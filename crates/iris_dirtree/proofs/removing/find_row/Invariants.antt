@@ -3,9 +3,9 @@ use Rattle.iris_name.specs.declared.name.Name.{Name}
 use Rattle.iris_node.specs.Rules.{IsLinkToNamed}
 use Rattle.iris_node.specs.Trees.{Shown}
 use Rattle.iris_shape.specs.Treap.{Treap}
-use Rattle.iris_dirtree.specs.Crumbs.{AreNamed}
+use Rattle.iris_treepaths.specs.Crumbs.{AreNamed}
 use Rattle.iris_dirtree.specs.Descents.{Stands, Walked}
-use Rattle.iris_dirtree.specs.Rows.{Row}
+use Rattle.iris_treepaths.specs.Rows.{Row}
 use Rattle.iris_dirtree.proofs.removing.find_row.Given as goal
 
 abbrev pub invariant-loop-step : goal.invariant-loop-step

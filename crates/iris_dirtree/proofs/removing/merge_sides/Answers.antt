@@ -13,13 +13,13 @@ use Rattle.iris_node.specs.Unfolded.{id_of}
 use Rattle.iris_shape.specs.Order.{beats}
 use Rattle.iris_shape.specs.Treap.{Treap}
 use Rattle.iris_cache.specs.Drafted.{seen}
-use Rattle.iris_dirtree.specs.declared.paths.Crumb.{Crumb}
+use Rattle.iris_treepaths.specs.declared.paths.Crumb.{Crumb}
 use Rattle.iris_dirtree.specs.Merges.{Merging, IsMerged}
-use Rattle.iris_dirtree.specs.Nodes.{IsLinkLack}
-use Rattle.iris_dirtree.specs.Rows.{Row, up}
-use Rattle.iris_dirtree.specs.Crumbs.{AreNamed}
+use Rattle.iris_treepaths.specs.Nodes.{IsLinkLack}
+use Rattle.iris_treepaths.specs.Rows.{Row, up}
+use Rattle.iris_treepaths.specs.Crumbs.{AreNamed}
 use Rattle.iris_dirtree.proofs.MergedTreaps.{merge_more, merged_less, merged_more, merge_stop}
-use Rattle.iris_dirtree.proofs.PathLaws.{each_more}
+use Rattle.iris_treepaths.proofs.PathLaws.{each_more}
 use Rattle.iris_dirtree.proofs.removing.merge_sides.Goals as goal
 
 ranks : (key : List ℕ) (j k : FileId) (b : Bool) → b ≡ beats (priority key) j.0 k.0 → (x y : Row) → j ≡ id_of x.id → k ≡ id_of y.id → up key x y ≡ b

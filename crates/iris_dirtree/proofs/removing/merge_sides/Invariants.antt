@@ -4,8 +4,8 @@ use Rattle.iris_node.specs.Rules.{IsLinkToNamed}
 use Rattle.iris_node.specs.Trees.{Shown}
 use Rattle.iris_shape.specs.Treap.{Treap}
 use Rattle.iris_dirtree.specs.Merges.{Merging}
-use Rattle.iris_dirtree.specs.Rows.{Row, up}
-use Rattle.iris_dirtree.specs.Crumbs.{AreNamed}
+use Rattle.iris_treepaths.specs.Rows.{Row, up}
+use Rattle.iris_treepaths.specs.Crumbs.{AreNamed}
 use Rattle.iris_dirtree.proofs.removing.merge_sides.Given as goal
 
 abbrev pub invariant-loop-step : goal.invariant-loop-step

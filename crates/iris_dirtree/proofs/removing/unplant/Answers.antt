@@ -1,4 +1,4 @@
-use Rattle.std.proofs.Common.{◌≡◌, List, Some, is_some, refl, ap, sym, ◌∙◌, subst}
+use Rattle.std.proofs.Common.{◌≡◌, List, Some, None, is_some, refl, ap, sym, ◌∙◌, subst}
 use Rattle.std.proofs.lemmas.Result.{err_from_is_err_and}
 use Rattle.iris_name.specs.declared.name.FileId.{FileId}
 use Rattle.iris_name.specs.declared.name.Name.{Name}
@@ -11,20 +11,21 @@ use Rattle.iris_shape.specs.Treap.{treap, rows_without}
 use Rattle.iris_shape.specs.Order.{Distinct}
 use Rattle.iris_shape.proofs.Treaps.{rows_treap}
 use Rattle.iris_cache.specs.Drafted.{seen, taken_away}
-use Rattle.iris_dirtree.specs.Crumbs.{crumb_above}
-use Rattle.iris_dirtree.specs.Descents.{FoundRow, Walks, met_near}
+use Rattle.iris_treepaths.specs.Paths.{met_near}
+use Rattle.iris_treepaths.specs.Crumbs.{crumb_above}
+use Rattle.iris_dirtree.specs.Descents.{FoundRow, Walks}
 use Rattle.iris_dirtree.specs.Merges.{Merges}
-use Rattle.iris_dirtree.specs.Needs.{Listed}
-use Rattle.iris_dirtree.specs.Nodes.{IsPut}
-use Rattle.iris_dirtree.specs.Rows.{Row, treap_of_rows, up, row_id}
-use Rattle.iris_dirtree.specs.Ways.{has_name, near_name}
-use Rattle.iris_dirtree.proofs.Begins.{holder, stands_start, stop_short}
-use Rattle.iris_dirtree.proofs.MergedTreaps.{taken, found_merging, rising_merged}
-use Rattle.iris_dirtree.proofs.Owned.{stays_seen}
+use Rattle.iris_treepaths.specs.Needs.{Listed}
+use Rattle.iris_treepaths.specs.Nodes.{IsPut}
+use Rattle.iris_treepaths.specs.Rows.{Row, treap_of_rows, up, row_id}
+use Rattle.iris_treepaths.specs.Ways.{has_name, near_name}
+use Rattle.iris_dirtree.proofs.TreapTops.{holder, stands_start, stop_short}
+use Rattle.iris_dirtree.proofs.MergedTreaps.{found_merging, rising_merged}
+use Rattle.iris_treepaths.proofs.Owned.{stays_seen}
 use Rattle.iris_dirtree.proofs.RemovedRows.{IsMade, planted, row_taken, made_stays}
-use Rattle.iris_dirtree.proofs.Sees.{sees_holding}
-use Rattle.iris_dirtree.proofs.There.{is_there}
-use Rattle.iris_dirtree.proofs.Withouts.{taken_without, once_of, distinct_without}
+use Rattle.iris_treepaths.proofs.Sees.{sees_holding}
+use Rattle.iris_treepaths.proofs.There.{is_there}
+use Rattle.iris_treepaths.proofs.RowsWithout.{taken, taken_without, once_of, distinct_without}
 use Rattle.iris_dirtree.proofs.removing.unplant.Goals as goal
 use Rattle.iris_dirtree.proofs.removing.unplant.Goals.{In_ok-path}
 
