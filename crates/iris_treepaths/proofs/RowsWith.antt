@@ -1,13 +1,11 @@
 -- A row put into the list of a directory's rows, and into their treap.
-use Rattle.std.proofs.Common.{◌≡◌, ◌≢◌, ◌⊎◌, ◌++◌, inl, inr, ℕ, Bool, true, false, cond, List, [], ◌∷◌, refl, ap, sym, ◌∙◌, subst}
-use Rattle.std.proofs.lemmas.Bool.{cond-true}
+use Rattle.std.proofs.Common.{◌≡◌, ◌≢◌, ◌⊎◌, ◌++◌, inl, inr, ℕ, Bool, true, false, cond, List, [], ◌∷◌, refl, ap, sym, subst}
 use Rattle.iris_name.specs.Hmac.{priority}
-use Rattle.iris_name.specs.declared.name.FileId.{FileId}
 use Rattle.iris_name.specs.declared.name.Name.{Name}
 use Rattle.iris_name.specs.declared.name.Name.TheVariants as name
 use Rattle.iris_node.specs.Unfolded.{id_of}
-use Rattle.iris_shape.specs.Order.{beats, Rising, Distinct}
-use Rattle.iris_shape.specs.Treap.{Treap, Empty, Over, treap, low, high, insert, rows_with, keep, skip, Each, AllApart}
+use Rattle.iris_shape.specs.Order.{Rising, Distinct}
+use Rattle.iris_shape.specs.Treap.{treap, insert, rows_with, keep, skip, Each, AllApart}
 use Rattle.iris_shape.proofs.LawProofs.{treap_put, priorities_rank, names_part}
 use Rattle.iris_treepaths.specs.Rows.{Row, row_id, row_name, up}
 use Rattle.iris_treepaths.specs.Ways.{is_row_before}

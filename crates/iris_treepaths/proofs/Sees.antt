@@ -1,5 +1,5 @@
 -- What a plan rests on of the tables before and after, whether a row is in hand or none.
-use Rattle.std.proofs.Common.{◌≡◌, inl, inr, ◌⊎◌, Option, Some, None, IsSome, refl}
+use Rattle.std.proofs.Common.{◌≡◌, inl, ◌⊎◌, Option, Some, None, IsSome, refl}
 use Rattle.std.specs.Option.{option_map}
 use Rattle.iris_name.specs.declared.name.Name.{Name}
 use Rattle.iris_node.specs.Trees.{Shown, IsTree}
