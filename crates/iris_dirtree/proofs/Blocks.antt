@@ -22,11 +22,12 @@ use Rattle.iris_node.specs.Unfolded.{Unfolded, Absent, Folder, Leaf, Even, Split
 use Rattle.iris_node.specs.Walk.{BlockAt, walk, file_blocks, block_count}
 use Rattle.iris_node.proofs.Walking.{counted}
 use Rattle.iris_cache.specs.Pictures.{Holds, BodyHolds}
-use Rattle.iris_dirtree.specs.Nodes.{own_blocks}
+use Rattle.iris_treepaths.specs.Nodes.{own_blocks}
 use Rattle.iris_dirtree.specs.Places.{down_to}
 use Rattle.iris_dirtree.specs.Turns.{IsTurn}
-use Rattle.iris_dirtree.specs.Ways.{Any}
+use Rattle.iris_treepaths.specs.Ways.{Any}
 use Rattle.iris_dirtree.specs.declared.placing.Turn.TheVariants.{Own, Under}
+use Rattle.iris_treepaths.proofs.RowNodes.{led_blocks, like_blocks}
 use Rattle.iris_dirtree.proofs.Stands.{link_holds}
 
 pub get_left : (xs ys : List BlockAt) (i : ℕ) → i < length xs → slice_get (xs ++ ys) i ≡ slice_get xs i
@@ -81,10 +82,6 @@ third_of_three at a b r X Y Z e =
     let z : at - a - b ≡ r = omega arith in
     cond-false (nat_lt at a) (X at) _ (is_not_less at a (omega arith)) ∙ cond-false (nat_lt (at - a) b) (Y (at - a)) _ (is_not_less (at - a) b (omega arith)) ∙ ap Z z
 
-abbrev lead_blocks : Option Lead → ℕ
-lead_blocks None = 0
-lead_blocks (Some l) = l.blocks
-
 abbrev name_id : Option Name → ℕ
 name_id None = 0
 name_id (Some (name.Entry id)) = id.0
@@ -94,21 +91,6 @@ name_id (Some (name.Block f p)) = 0
 entry_id_is : (id : ℕ) (i : FileId) → Some (name.Entry (id_of id)) ≡ Some (name.Entry i) → id ≡ i.0
 entry_id_is id i e = ap name_id e
 
--- a link counts the blocks to which it leads
-pub led_blocks : (o : Option Link) (w : Unfolded) → led_by o ≡ led w → link_blocks o ≡ blocks w
-led_blocks None (Folder id label less more inside) h = cc
-led_blocks None (Leaf id label less more size counter versions) h = cc
-led_blocks None Absent h = refl
-led_blocks None (Even v) h = refl
-led_blocks None (Split f k i low high) h = refl
-led_blocks None (Stored v bytes) h = refl
-led_blocks (Some l) (Folder id label less more inside) h = ap (λ o. lead_blocks o) h
-led_blocks (Some l) (Leaf id label less more size counter versions) h = ap (λ o. lead_blocks o) h
-led_blocks (Some l) Absent h = cc
-led_blocks (Some l) (Even v) h = cc
-led_blocks (Some l) (Split f k i low high) h = cc
-led_blocks (Some l) (Stored v bytes) h = cc
-
 -- where no link leads, there is no block
 pub walk_none : (w : Unfolded) → led_by None ≡ led w → walk w ≡ []
 walk_none (Folder id label less more inside) h = cc
@@ -117,20 +99,6 @@ walk_none Absent h = refl
 walk_none (Even v) h = refl
 walk_none (Split f k i low high) h = refl
 walk_none (Stored v bytes) h = refl
-
--- all blocks at and below an entry
-pub like_blocks : (u : Unfolded) (e : EntryFields) (b : Body) → local u ≡ Some (entry_local e b) → link_blocks e.left + (own_blocks b + link_blocks e.right) ≡ blocks u
-like_blocks (Folder id label less more inside) e (Dir top) h =
-    let a = led_blocks e.left less (cc) in let b = led_blocks top inside (cc) in let c = led_blocks e.right more (cc) in omega (arith, a, b, c)
-like_blocks (Leaf id label less more size counter versions) e (File n k v) h =
-    let a = led_blocks e.left less (cc) in let b : n ≡ size = cc in let c = led_blocks e.right more (cc) in ap (λ n. link_blocks e.left + ((n + 4095) / 4096 + link_blocks e.right)) b ∙ omega (arith, a, c)
-like_blocks (Folder id label less more inside) e (File n k v) h = cc
-like_blocks (Leaf id label less more size counter versions) e (Dir top) h = cc
-like_blocks (Split f l i low high) e (Dir top) h = cc
-like_blocks (Split f l i low high) e (File n k v) h = cc
-like_blocks Absent e b h = cc
-like_blocks (Even v) e b h = cc
-like_blocks (Stored v bytes) e b h = cc
 
 -- a turn leads to what holds the block
 pub record Turned (u : Unfolded) (e : EntryFields) (at : ℕ) (link : Option Link) (rest : ℕ) : Type 0 where

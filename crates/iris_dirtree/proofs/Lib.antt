@@ -1,40 +1,23 @@
-pub mod There
-pub mod Owned
-pub mod Sees
-pub mod Likes
+-- Where the main theorems are proved, each with the files that it stands on:
+-- the row of a name is found (`Searches`): Stands, Pasts
+-- a page has the next names (`Listings`): Pages, PassedRows, Stands, Pasts
+-- a block of the walk is found by counts (`BlockPlaces`): Blocks, Stands, Pasts
+-- an insertion plants the treap with the row, by split and plug (`InsertedRows`): TreapTops, WaysDown, SplitTreaps, PlantedTreaps
+-- a removal plants the treap without the row, by merge and plug (`RemovedRows`): TreapTops, WaysDown, MergedTreaps, PlantedTreaps
+-- and then the counts above are right (`PlanEnds`)
 pub mod Pasts
-pub mod Downs
 pub mod Stands
 pub mod Searches
 pub mod Blocks
-pub mod Placings
-pub mod Fitting
-pub mod Walks
-pub mod Halving
-pub mod Growth
-pub mod Assembly
-pub mod Sizes
-pub mod Recounts
-pub mod CountsUp
-pub mod CountsSet
-pub mod Refills
-pub mod Rowed
-pub mod Steps
-pub mod Climbs
-pub mod Seeks
-pub mod Begins
-pub mod Withouts
-pub mod Plants
-pub mod Planting
-pub mod HeldHashes
-pub mod Insertions
-pub mod Grafting
-pub mod Implanting
-pub mod Shortages
-pub mod Moved
-pub mod Handed
-pub mod Rights
-pub mod Finishing
+pub mod BlockPlaces
 pub mod Pages
-pub mod Pilings
+pub mod PassedRows
 pub mod Listings
+pub mod TreapTops
+pub mod WaysDown
+pub mod SplitTreaps
+pub mod MergedTreaps
+pub mod PlantedTreaps
+pub mod InsertedRows
+pub mod RemovedRows
+pub mod PlanEnds

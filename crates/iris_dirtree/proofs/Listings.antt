@@ -19,17 +19,17 @@ use Rattle.iris_cache.specs.Pictures.{IsLike}
 use Rattle.iris_cache.specs.Resident.{Resident}
 use Rattle.iris_cache.specs.Drafted.{Drafted, known, seen}
 use Rattle.iris_cache.proofs.Lacking.{unknown}
-use Rattle.iris_dirtree.specs.Needs.{IsMetShort, Listed}
-use Rattle.iris_dirtree.specs.Rows.{Row, row_name, row_entry, unfolded_rows, up}
-use Rattle.iris_dirtree.specs.Ways.{Any, up_to, along_name, along_each, along_page, following}
+use Rattle.iris_treepaths.specs.Needs.{IsMetShort, Listed}
+use Rattle.iris_treepaths.specs.Rows.{Row, row_name, row_entry, unfolded_rows, up}
+use Rattle.iris_treepaths.specs.Ways.{Any, up_to, along_name, along_each, along_page, following}
 use Rattle.iris_dirtree.specs.Found.{entry_of_node, inside}
 use Rattle.iris_dirtree.specs.Piles.{whole, right as right_part, Passed, passed_id, to_list, IsPassed, Tables, Piled, Piling, IsUnderShort}
-use Rattle.iris_dirtree.proofs.Sees.{Sees, sees_holding}
-use Rattle.iris_dirtree.proofs.Likes.{like_row, above_more}
+use Rattle.iris_treepaths.proofs.Sees.{Sees, sees_holding}
+use Rattle.iris_treepaths.proofs.Likes.{like_row, above_more}
 use Rattle.iris_dirtree.proofs.Stands.{top_way, way_down, is_entry, link_holds}
 use Rattle.iris_dirtree.proofs.Pages.{falls_up_to, skip_false, high_all, sub_rising, sub_along, spine, way_next, page_has}
-use Rattle.iris_dirtree.proofs.Downs.{any_left, any_right}
-use Rattle.iris_dirtree.proofs.Pilings.{to_list_append}
+use Rattle.iris_treepaths.proofs.Downs.{any_left, any_right}
+use Rattle.iris_dirtree.proofs.PassedRows.{to_list_append}
 
 -- the last of a list that is known by a map
 record Last (a : List FileId) (x : FileId) (pile : List Passed) : Type 0 where

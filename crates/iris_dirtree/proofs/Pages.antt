@@ -5,10 +5,10 @@ use Rattle.iris_shape.specs.Treap.{Treap, Empty, Over, rows, high, skip, way, Ea
 use Rattle.iris_shape.specs.Order.{less_name, Rising}
 use Rattle.iris_shape.proofs.Orders.{less_through}
 use Rattle.iris_shape.proofs.Treaps.{each_map, each_of, every_of, every_high}
-use Rattle.iris_dirtree.specs.Rows.{Row, row_name}
-use Rattle.iris_dirtree.specs.Ways.{Any, along, is_row_before, has_name, up_to, along_name, along_each}
+use Rattle.iris_treepaths.specs.Rows.{Row, row_name}
+use Rattle.iris_treepaths.specs.Ways.{Any, along, is_row_before, has_name, up_to, along_name, along_each}
 use Rattle.iris_dirtree.specs.Piles.{Sub, whole, left, right}
-use Rattle.iris_dirtree.proofs.Downs.{any_left, any_right, rising_left, rising_right, rising_before, less_back, less_same}
+use Rattle.iris_treepaths.proofs.Downs.{any_left, any_right, rising_left, rising_right, rising_before, less_back, less_same}
 
 -- ---- skipping
 

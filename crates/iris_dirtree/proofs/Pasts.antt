@@ -16,9 +16,9 @@ use Rattle.iris_cache.specs.declared.held.Held.{Held}
 use Rattle.iris_cache.specs.declared.draft.Change.{Change}
 use Rattle.iris_cache.specs.Resident.{Resident, held_node}
 use Rattle.iris_cache.specs.Drafted.{Drafted, drafted, seen, known_by, there_by}
-use Rattle.iris_dirtree.specs.Reached.{size, MetInOrder}
+use Rattle.iris_treepaths.specs.Reached.{size, MetInOrder}
 use Rattle.iris_cache.proofs.Rising.{or-split}
-use Rattle.iris_dirtree.proofs.Sizes.{above_larger}
+use Rattle.iris_treepaths.proofs.Sizes.{above_larger}
 
 pub past_less : (t : Shown) (s : Name → Option Node) (k v w : ℕ) → w ≤ v → MetInOrder t s k v → MetInOrder t s k w
 past_less t s zero v w le p = tt

@@ -14,17 +14,17 @@ use Rattle.iris_shape.specs.Order.{less_name, Rising}
 use Rattle.iris_shape.proofs.Treaps.{rows_treap}
 use Rattle.iris_cache.specs.Resident.{Resident}
 use Rattle.iris_cache.specs.Drafted.{Drafted, seen, known}
-use Rattle.iris_dirtree.specs.Rows.{Row, row_name, unfolded_rows, up}
-use Rattle.iris_dirtree.specs.Ways.{Any, along, along_name, is_row_before, has_name, IsNamed}
+use Rattle.iris_treepaths.specs.Rows.{Row, row_name, unfolded_rows, up}
+use Rattle.iris_treepaths.specs.Ways.{Any, along, along_name, is_row_before, has_name, IsNamed}
 use Rattle.iris_cache.specs.Needs.{IsWanted}
-use Rattle.iris_dirtree.specs.Needs.{Listed}
-use Rattle.iris_dirtree.specs.Reached.{Way}
+use Rattle.iris_treepaths.specs.Needs.{Listed}
+use Rattle.iris_treepaths.specs.Reached.{Way}
 use Rattle.iris_dirtree.specs.Found.{entry_of_node, inside}
-use Rattle.iris_dirtree.proofs.Sees.{Sees, sees_holding}
-use Rattle.iris_dirtree.proofs.Likes.{leads_empty, leads_over}
+use Rattle.iris_treepaths.proofs.Sees.{Sees, sees_holding}
+use Rattle.iris_treepaths.proofs.Likes.{leads_empty, leads_over}
 use Rattle.iris_dirtree.proofs.Pasts.{past_bound}
 use Rattle.iris_dirtree.proofs.Stands.{Here, here, no_entry, top_way}
-use Rattle.iris_dirtree.proofs.Downs.{Down, here as at_top, less, more, down_along, down_rows, down_none, less_same, any_right}
+use Rattle.iris_treepaths.proofs.Downs.{Down, here as at_top, less, more, down_along, down_rows, down_none, less_same, any_right}
 
 -- how far a search has come: the row, if there is one, stands below a link
 pub record Search (key : List ℕ) (n : List ℕ) (old new : Shown) (d : Drafted) (c : Resident) (rows : List Row) (at : Option Link) (k : ℕ) : Type 0 where

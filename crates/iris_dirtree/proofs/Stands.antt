@@ -23,15 +23,15 @@ use Rattle.iris_cache.specs.Drafted.{Drafted, seen, known, there_by}
 use Rattle.iris_cache.specs.Pictures.{IsLike, Holds, LinkHolds, BodyHolds}
 use Rattle.iris_cache.proofs.Lacking.{unknown}
 use Rattle.iris_cache.specs.Needs.{IsWanted}
-use Rattle.iris_dirtree.specs.Rows.{Row, row_entry, unfolded_rows, up, HasRows}
-use Rattle.iris_dirtree.specs.Ways.{Any}
-use Rattle.iris_dirtree.specs.Needs.{IsDirectory, IsDirNode, IsMetLack, LacksMet, Listed}
+use Rattle.iris_treepaths.specs.Rows.{Row, row_entry, unfolded_rows, up, HasRows}
+use Rattle.iris_treepaths.specs.Ways.{Any}
+use Rattle.iris_treepaths.specs.Needs.{IsDirectory, IsDirNode, IsMetLack, LacksMet, Listed}
 use Rattle.iris_dirtree.specs.Found.{entry_of_node, inside, body_inside}
-use Rattle.iris_dirtree.specs.Reached.{size, MetInOrder, Way}
-use Rattle.iris_dirtree.proofs.Sees.{Sees, sees_holding, wanted, root_wanted}
-use Rattle.iris_dirtree.proofs.Likes.{roof, LikeRow, like_row, like_part, leads_over, lead_id, above_less, above_more}
+use Rattle.iris_treepaths.specs.Reached.{size, MetInOrder, Way}
+use Rattle.iris_treepaths.proofs.Sees.{Sees, sees_holding, wanted, root_wanted}
+use Rattle.iris_treepaths.proofs.Likes.{roof, LikeRow, like_row, like_part, leads_over, lead_id, above_less, above_more}
 use Rattle.iris_dirtree.proofs.Pasts.{past_more}
-use Rattle.iris_dirtree.proofs.There.{is_there}
+use Rattle.iris_treepaths.proofs.There.{is_there}
 
 lead_named : (i : ℕ) (l : Link) (b : ℕ) → led_by (Some l) ≡ Some (record { id = i; blocks = b }) → Some (name.Entry (id_of i)) ≡ Some (name.Entry l.id)
 lead_named i l b h = let e : l.id.0 ≡ i = ap (λ o. lead_id o 0) h in ap (λ i. Some (name.Entry (id_of i))) (sym e)

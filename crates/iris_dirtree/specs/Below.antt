@@ -12,7 +12,7 @@ use Rattle.iris_cache.specs.Resident.{Resident}
 use Rattle.iris_cache.specs.Drafted.{Drafted}
 use Rattle.iris_cache.specs.Pictures.{Drafts}
 use Rattle.iris_dirtree.specs.Places.{down_to}
-use Rattle.iris_dirtree.specs.Ways.{Any}
+use Rattle.iris_treepaths.specs.Ways.{Any}
 
 -- A cache with a draft pictures a table whose entry of an id is this.
 pub record RootIs (root : FileId) (d : Drafted) (c : Resident) (old new : Shown) (u : Unfolded) : Type 0 where

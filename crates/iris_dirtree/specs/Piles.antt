@@ -15,9 +15,9 @@ use Rattle.iris_cache.specs.Needs.{Lacks, StopsShort}
 use Rattle.iris_cache.specs.Resident.{Resident}
 use Rattle.iris_cache.specs.Drafted.{Drafted, seen}
 use Rattle.iris_cache.specs.Pictures.{Drafts}
-use Rattle.iris_dirtree.specs.Rows.{Row, row_entry, unfolded_rows}
-use Rattle.iris_dirtree.specs.Ways.{Any, up_to}
-use Rattle.iris_dirtree.specs.Reached.{Way}
+use Rattle.iris_treepaths.specs.Rows.{Row, row_entry, unfolded_rows}
+use Rattle.iris_treepaths.specs.Ways.{Any, up_to}
+use Rattle.iris_treepaths.specs.Reached.{Way}
 
 -- a part of a treap
 pub data Sub {A : Type 0} (t : Treap A) : Treap A → Type 0 where

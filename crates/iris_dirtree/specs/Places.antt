@@ -11,7 +11,7 @@ use Rattle.iris_cache.specs.Needs.{Lacks, StopsOnNeed}
 use Rattle.iris_cache.specs.Resident.{Resident}
 use Rattle.iris_cache.specs.Drafted.{Drafted}
 use Rattle.iris_cache.specs.Pictures.{Drafts}
-use Rattle.iris_dirtree.specs.Ways.{Any}
+use Rattle.iris_treepaths.specs.Ways.{Any}
 
 -- A cache with a draft pictures a table whose roots are these.
 pub record Rooted (d : Drafted) (c : Resident) (old new : Shown) (root trash : Unfolded) : Type 0 where

@@ -7,7 +7,7 @@ use Rattle.iris_node.specs.declared.node.Body.TheVariants.{Dir, File}
 use Rattle.iris_node.specs.declared.node.Link.{Link}
 use Rattle.iris_node.specs.Fields.{EntryFields}
 use Rattle.iris_node.specs.Walk.{BlockAt}
-use Rattle.iris_dirtree.specs.Nodes.{own_blocks}
+use Rattle.iris_treepaths.specs.Nodes.{own_blocks}
 use Rattle.iris_node.specs.Unfolded.{link_blocks}
 use Rattle.iris_dirtree.specs.declared.placing.Turn.{Turn}
 use Rattle.iris_dirtree.specs.declared.placing.Turn.TheVariants.{Own, Under}

@@ -4,12 +4,12 @@ ghost use Rattle.std.specs.Prelude.{◌≡◌, ◌+◌, ◌<◌, ◌^◌, ℕ, L
 ghost use Rattle.std.specs.Option.{option_copied};
 ghost use Rattle.iris_node.specs.Trees.{Shown};
 ghost use Rattle.iris_cache.specs.Drafted.{known, seen};
-ghost use Rattle.iris_dirtree.specs.Rows.{Row};
-ghost use Rattle.iris_dirtree.specs.Ways.{IsNamed, along_name};
-ghost use Rattle.iris_dirtree.specs.Needs.{IsDirectory, Listed, IsMetLack};
+ghost use Rattle.iris_treepaths.specs.Rows.{Row};
+ghost use Rattle.iris_treepaths.specs.Ways.{IsNamed, along_name};
+ghost use Rattle.iris_treepaths.specs.Needs.{IsDirectory, Listed, IsMetLack};
 ghost use Rattle.iris_dirtree.specs.Found.{entry_of_node, inside, id_found};
 
-use crate::nodes::stands_before;
+use iris_treepaths::nodes::stands_before;
 use iris_cache::{Cache, Draft, Short};
 use iris_name::{Expect, FileId, Hash32, Name, Text};
 use iris_node::{Body, EntryNode, Link, Node};

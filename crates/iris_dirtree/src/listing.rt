@@ -7,14 +7,14 @@ ghost use Rattle.iris_node.specs.Trees.{Shown};
 ghost use Rattle.iris_shape.specs.Order.{less_name};
 ghost use Rattle.iris_shape.specs.Treap.{Treap};
 ghost use Rattle.iris_cache.specs.Drafted.{seen};
-ghost use Rattle.iris_dirtree.specs.Rows.{Row, row_name};
-ghost use Rattle.iris_dirtree.specs.Ways.{following, along_page};
-ghost use Rattle.iris_dirtree.specs.Needs.{IsDirectory, Listed, IsMetShort};
+ghost use Rattle.iris_treepaths.specs.Rows.{Row, row_name};
+ghost use Rattle.iris_treepaths.specs.Ways.{following, along_page};
+ghost use Rattle.iris_treepaths.specs.Needs.{IsDirectory, Listed, IsMetShort};
 ghost use Rattle.iris_dirtree.specs.Found.{entry_of_node};
 ghost use Rattle.iris_dirtree.specs.Piles.{Tables, Piled, Piling, IsUnderShort};
 
 use crate::finding::{as_entry, entry_seen, longest_way, top_seen};
-use crate::nodes::stands_before;
+use iris_treepaths::nodes::stands_before;
 use iris_cache::{Cache, Draft, Short};
 use iris_name::{FileId, Name, Text, Texts};
 use iris_node::{EntryNode, Link};

@@ -6,13 +6,13 @@ ghost use Rattle.iris_node.specs.Unfolded.{Unfolded, blocks, link_blocks};
 ghost use Rattle.iris_node.specs.Walk.{walk};
 ghost use Rattle.iris_name.specs.declared.name.Name.TheVariants as name;
 ghost use Rattle.iris_cache.specs.Drafted.{known, seen};
-ghost use Rattle.iris_dirtree.specs.Nodes.{own_blocks, node_blocks};
+ghost use Rattle.iris_treepaths.specs.Nodes.{own_blocks, node_blocks};
 ghost use Rattle.iris_dirtree.specs.Places.{Rooted, whole_walk, IsPlaceLack};
 ghost use Rattle.iris_dirtree.specs.Turns.{IsTurn, block_found};
 ghost use Rattle.iris_dirtree.specs.Below.{RootIs, IsBelowLack};
 
 use crate::finding::{ANY_HASH, entry_seen, longest_way};
-use crate::nodes::own_blocks;
+use iris_treepaths::nodes::own_blocks;
 use iris_cache::{Cache, Draft, Short};
 use iris_name::{Expect, FileId};
 use iris_node::{Body, EntryNode, Link};

@@ -1,6 +1,6 @@
 //! Takes a row out of a directory's treap.
 
-ghost use Rattle.std.specs.Prelude.{◌≡◌, ◌≤◌, ◌<◌, ◌^◌, ◌++◌, Bool, List, ◌∷◌, [], Option, Some, None, IsSome, IfOk, IfErr, OnOk, cond};
+ghost use Rattle.std.specs.Prelude.{◌≡◌, ◌≤◌, ◌<◌, ◌^◌, Bool, List, Option, Some, None, IsSome, IfOk, IfErr, OnOk, cond};
 ghost use Rattle.iris_name.specs.declared.name.Name.{Name as SpecName};
 ghost use Rattle.iris_node.specs.declared.node.Link.{Link as AnyLink};
 ghost use Rattle.iris_node.specs.Fields.{EntryFields};
@@ -8,55 +8,43 @@ ghost use Rattle.iris_node.specs.Rules.{IsLinkToNamed};
 ghost use Rattle.iris_node.specs.Trees.{IsTree, Shown};
 ghost use Rattle.iris_node.specs.Unfolded.{blocks};
 ghost use Rattle.iris_shape.specs.Treap.{Treap, treap, rows_without};
-ghost use Rattle.iris_cache.specs.Drafted.{Drafted, drafted, seen};
-ghost use Rattle.iris_dirtree.specs.Descents.{Seeking, FoundRow, Joining, Ended, IsStop, Seeks, Joins};
-ghost use Rattle.iris_dirtree.specs.Hands.{Holding, HoldsTrue, IsRowNode};
-ghost use Rattle.iris_dirtree.specs.Counts.{IsEntryName};
-ghost use Rattle.iris_dirtree.specs.Needs.{IsDirectory, IsMetShort, Listed};
-ghost use Rattle.iris_dirtree.specs.Nodes.{IsPut, LinksTo, between, turned};
-ghost use Rattle.iris_dirtree.specs.Planted.{Planted};
-ghost use Rattle.iris_dirtree.specs.Rows.{IsCountable, Rearranges, Row, treap_of_rows, unfolded_rows, up};
-ghost use Rattle.iris_dirtree.specs.Steps.{AreNamed, Once, Rising, crumb_above};
-ghost use Rattle.iris_dirtree.specs.Ways.{Any, has_name, near_name};
+ghost use Rattle.iris_cache.specs.Drafted.{drafted, seen};
+ghost use Rattle.iris_treepaths.specs.Paths.{met_near};
+ghost use Rattle.iris_treepaths.specs.Counts.{IsEntryName};
+ghost use Rattle.iris_treepaths.specs.Crumbs.{AreNamed};
+ghost use Rattle.iris_dirtree.specs.Descents.{Stands, FoundRow, IsStop, Walks};
+ghost use Rattle.iris_treepaths.specs.Hands.{Holding, HoldsTrue, IsRowNode};
+ghost use Rattle.iris_dirtree.specs.Merges.{Merging, IsMerged, Merges};
+ghost use Rattle.iris_treepaths.specs.Needs.{IsDirectory, IsMetShort, Listed};
+ghost use Rattle.iris_treepaths.specs.Nodes.{IsPut, OnlyEntries, between};
+ghost use Rattle.iris_treepaths.specs.Planted.{Planted};
+ghost use Rattle.iris_treepaths.specs.Rows.{IsCountable, Rearranges, Row, treap_of_rows, up};
+ghost use Rattle.iris_treepaths.specs.Ways.{Any, has_name, near_name};
 
-use crate::counting::recount;
+use iris_treepaths::recount;
 use crate::finding::longest_way;
-use crate::nodes::{
-    copy_entry, entry_at, hang, is_named, set_top, side, stands_above, stands_before, top_of, turn,
+use iris_treepaths::nodes::{
+    copy_entry, entry_at, is_named, set_top, side, stands_above, stands_before, top_of,
 };
+use iris_treepaths::paths::{Crumb, above, climb, keep};
 use iris_cache::{Cache, Draft, Short};
 use iris_mac::{Keys, priority};
-use iris_name::{FileId, Hash32, Name, NoMemory, Text};
+use iris_name::{FileId, Name, NoMemory, Text};
 use iris_node::{EntryNode, Link, Node};
 use std::alloc::Global;
 
-/// An entry met on a way down, on which side the way goes on, and the hash by which it was reached.
-#[derive(Drop)]
-pub(crate) struct Crumb {
-    pub node: EntryNode,
-    pub right: bool,
-    pub hash: Hash32,
-}
-
-// The row of a name, and the entries above it.
+// The row of a name, and the path to it.
 #[derive(Drop)]
 struct Found {
     path: Vec<Crumb>,
     row: EntryNode,
 }
 
-// The entries above what is left once two treaps are joined, and the link to that.
+// The path to what is left once two treaps are merged, and the link to that.
 #[derive(Drop)]
-struct Met {
+struct Merged {
     path: Vec<Crumb>,
     end: Option<Link>,
-}
-
-fn keep(path: &mut Vec<Crumb>, node: EntryNode, right: bool, hash: Hash32) -> Result<(), NoMemory>
-    ensures { OnOk result (path.new.items ≡ path.old.items ++ record { node = node; right = right; hash = hash } ∷ []) }
-{
-    path.push(Crumb { node, right, hash })?;
-    Ok(())
 }
 
 // Goes down from a directory's topmost entry to the row of a name.
@@ -68,9 +56,10 @@ fn find_row(
     name: &Text,
 ) -> Result<Found, Short>
     requires { IsLinkToNamed top }
-    ensures found { IfOk result (λ r. (old new : Shown) → (t : Treap Row) → (p : SpecName) → (up : Row → Row → Bool) → Seeking old new cache.now t draft.now p up name.now [] top → FoundRow old new cache.now t draft.now up name.now r.path.items r.row) }
+    ensures found { IfOk result (λ r. (old new : Shown) → (t : Treap Row) → (lasts : SpecName → Bool) → (p : SpecName) → Stands old new cache.now t lasts draft.now p top t
+        → FoundRow old new cache.now lasts draft.now p name.now t r.path.items r.row) }
     ensures named { IfOk result (λ r. AreNamed r.path.items) }
-    ensures short { IfErr result (IsStop (Seeks draft.now cache.now name.now top) draft.now cache.now) }
+    ensures short { IfErr result (IsStop (Walks (met_near name.now) draft.now cache.now top) draft.now cache.now) }
 {
     let mut path = Vec::new(alloc);
     let mut at = top;
@@ -114,30 +103,31 @@ fn rest_more(right: bool, node: &EntryNode, y: Link) -> Option<Link>
     if right { Some(y) } else { node.left }
 }
 
-// Goes down the two treaps beside a row as they are to be joined.
-fn join_sides(
+// Goes down the two treaps beside a row as they are to be merged.
+fn merge_sides(
     alloc: Global,
     draft: &Draft,
     cache: &Cache,
     keys: &Keys,
     row: &EntryNode,
     path: Vec<Crumb>,
-) -> Result<Met, Short>
+) -> Result<Merged, Short>
     requires { AreNamed path.items }
-    ensures ended { IfOk result (λ r. (old new : Shown) → (t u : Treap Row) → (met : List Row) → Joining old new cache.now t draft.now (up keys.now.order) met u path.items row.now.left row.now.right → Ended old cache.now t draft.now u r.path.items r.end) }
+    ensures merged { IfOk result (λ r. (old new : Shown) → (home u : Treap Row) → (lasts : SpecName → Bool) → (met : List Row)
+        → Merging old new cache.now home lasts draft.now (up keys.now.order) met u path.items row.now.left row.now.right → IsMerged old cache.now home lasts draft.now u r.path.items r.end) }
     ensures named { IfOk result (λ r. AreNamed r.path.items) }
     ensures linked { IfOk result (λ r. IsLinkToNamed r.end) }
-    ensures short { IfErr result (IsStop (Joins draft.now cache.now (up keys.now.order) path.items row.now.left row.now.right) draft.now cache.now) }
+    ensures short { IfErr result (IsStop (Merges draft.now cache.now (up keys.now.order) path.items row.now.left row.now.right) draft.now cache.now) }
 {
     let mut path = path;
     let mut less = row.left;
     let mut more = row.right;
     for step in 0..longest_way(draft, cache) {
         let Some(x) = less else {
-            return Ok(Met { path, end: more });
+            return Ok(Merged { path, end: more });
         };
         let Some(y) = more else {
-            return Ok(Met { path, end: less });
+            return Ok(Merged { path, end: less });
         };
         let right = stands_above(keys, priority(keys, x.id), x.id, y.id);
         let link = chosen(right, x, y);
@@ -147,16 +137,6 @@ fn join_sides(
         keep(&mut path, node, right, link.hash)?;
     }
     Err(Short::NoMemory)
-}
-
-// The entry above the end of a way down from a directory's.
-fn above(path: &[Crumb], dir: FileId) -> FileId
-    ensures { result ≡ crumb_above dir path.now }
-{
-    match path.last() {
-        Some(crumb) => crumb.node.id,
-        None => dir,
-    }
 }
 
 // Hangs the entry to which a link leads below another one, where it is seen.
@@ -170,8 +150,7 @@ fn move_rest(
     ensures moved { OnOk result ((k : AnyLink) → (e : EntryFields) → end ≡ Some k → seen draft.old cache.now (Name.Entry k.id) ≡ Some (Node.Entry e) → IsPut draft.old draft.new (Some (Name.Entry parent)) e) }
     ensures missing { OnOk result ((k : AnyLink) → end ≡ Some k → seen draft.old cache.now (Name.Entry k.id) ≡ None → draft.new ≡ draft.old) }
     ensures nothing { OnOk result (end ≡ None → draft.new ≡ draft.old) }
-    ensures stays { OnOk result ((n : SpecName) → IsSome (seen draft.old cache.now n) → IsSome (seen draft.new cache.now n)) }
-    ensures others { OnOk result ((n : SpecName) → (IsEntryName n → ⊥) → drafted draft.new n ≡ drafted draft.old n) }
+    ensures entries { OnOk result (OnlyEntries draft.old draft.new) }
 {
     let Some(link) = end else {
         return Ok(());
@@ -181,47 +160,6 @@ fn move_rest(
         _ => return Ok(()),
     };
     draft.set(Some(Name::Entry { id: parent }), Node::Entry(entry))
-}
-
-// Sets a crumb's entry over a link, below another entry, and links to it.
-fn rehang(
-    draft: &mut Draft,
-    parent: FileId,
-    crumb: Crumb,
-    link: Option<Link>,
-) -> Result<Link, NoMemory>
-    requires row { 2 ≤ crumb.node.id.0 }
-    requires linked { IsLinkToNamed link }
-    ensures link { IfOk result (LinksTo (turned crumb.right link crumb.node) crumb.hash) }
-    ensures set { OnOk result (IsPut draft.old draft.new (Some (Name.Entry parent)) (turned crumb.right link crumb.node)) }
-{
-    let node = turn(crumb.node, crumb.right, link);
-    hang(draft, parent, node, crumb.hash)
-}
-
-// Sets the entries of a way anew, from its end up, and links to the topmost.
-fn climb(
-    draft: &mut Draft,
-    cache: &Cache,
-    path: Vec<Crumb>,
-    dir: FileId,
-    end: Option<Link>,
-) -> Result<Option<Link>, NoMemory>
-    requires named { AreNamed path.items }
-    requires linked { IsLinkToNamed end }
-    ensures risen { IfOk result (λ k. (old : Shown) → (t u : Treap Row) → (d : Drafted) → Once u → blocks (unfolded_rows u) < 2 ^ 64 → IsSome (seen d cache.now (Name.Entry dir))
-        → Rising old cache.now t d draft.old (Name.Entry dir) u path.items end → Rising old cache.now t d draft.new (Name.Entry dir) u [] k) }
-    ensures linked { IfOk result (λ k. IsLinkToNamed k) }
-    ensures stays { OnOk result ((n : SpecName) → IsSome (seen draft.old cache.now n) → IsSome (seen draft.new cache.now n)) }
-    ensures others { OnOk result ((n : SpecName) → (IsEntryName n → ⊥) → drafted draft.new n ≡ drafted draft.old n) }
-{
-    let mut path = path;
-    let mut link = end;
-    while let Some(crumb) = path.pop() {
-        let parent = above(path.as_slice(), dir);
-        link = Some(rehang(draft, parent, crumb, link)?);
-    }
-    Ok(link)
 }
 
 // Takes the row of a name out of a directory's treap, and hands its entry out. The counts above the directory stay.
@@ -244,9 +182,9 @@ fn unplant(
 {
     let top = top_of(draft, cache, dir)?;
     let Found { path, row } = find_row(alloc, draft, cache, top, name)?;
-    let Met { path, end } = join_sides(alloc, draft, cache, keys, &row, path)?;
+    let Merged { path, end } = merge_sides(alloc, draft, cache, keys, &row, path)?;
     move_rest(alloc, draft, cache, end, above(path.as_slice(), dir))?;
-    let top = climb(draft, cache, path, dir, end)?;
+    let top = climb(draft, path, dir, end)?;
     set_top(alloc, draft, cache, dir, top)?;
     draft.remove(&Name::Entry { id: row.id })?;
     Ok(row)

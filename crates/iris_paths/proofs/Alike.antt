@@ -4,8 +4,8 @@ use Rattle.iris_name.specs.declared.name.Name.{Name}
 use Rattle.iris_name.specs.declared.name.Name.TheVariants as name
 use Rattle.iris_node.specs.Unfolded.{Unfolded, Absent, Folder, Leaf, Even, Split, Stored, id_of}
 use Rattle.iris_shape.specs.Treap.{Treap, Empty, Over, Each, Every, way}
-use Rattle.iris_dirtree.specs.Rows.{Row, Content, Directory, File, entry_of, unfolded_rows, refilled}
-use Rattle.iris_dirtree.specs.Ways.{Any, along, is_row_before, has_name}
+use Rattle.iris_treepaths.specs.Rows.{Row, Content, Directory, File, entry_of, unfolded_rows, refilled}
+use Rattle.iris_treepaths.specs.Ways.{Any, along, is_row_before, has_name}
 
 -- what an entry is by itself, and what lies beside it
 record Parts : Type 0 where

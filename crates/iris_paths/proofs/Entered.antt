@@ -15,9 +15,9 @@ use Rattle.iris_cache.specs.Resident.{Resident, IsSound}
 use Rattle.iris_cache.specs.Drafted.{Drafted, seen, IsDraft}
 use Rattle.iris_plain.specs.declared.checks.Seen.{Seen}
 use Rattle.iris_plain.specs.declared.checks.Seen.TheVariants.{AFile}
-use Rattle.iris_dirtree.specs.Rows.{Row, HasRows}
-use Rattle.iris_dirtree.specs.Needs.{IsDirectory, IsDirNode, IsDirBody}
-use Rattle.iris_dirtree.proofs.Owned.{seen_own}
+use Rattle.iris_treepaths.specs.Rows.{Row, HasRows}
+use Rattle.iris_treepaths.specs.Needs.{IsDirectory, IsDirNode, IsDirBody}
+use Rattle.iris_treepaths.proofs.Owned.{seen_own}
 use Rattle.iris_paths.specs.declared.resolving.Found.{Found}
 use Rattle.iris_paths.specs.declared.resolving.Found.TheVariants.{At}
 use Rattle.iris_paths.specs.declared.entering.Place.TheVariants.{In, Not}

@@ -13,9 +13,9 @@ use Rattle.iris_cache.specs.Drafted.{Drafted}
 use Rattle.iris_plain.specs.declared.checks.Seen.{Seen}
 use Rattle.iris_plain.specs.Checks.{is_directory_seen, size_of}
 use Rattle.iris_plain.specs.Steps.{Judged}
-use Rattle.iris_dirtree.specs.Rows.{Row, row_name, HasRows}
-use Rattle.iris_dirtree.specs.Ways.{following, along_page}
-use Rattle.iris_dirtree.specs.Needs.{Listed, IsMetShort}
+use Rattle.iris_treepaths.specs.Rows.{Row, row_name, HasRows}
+use Rattle.iris_treepaths.specs.Ways.{following, along_page}
+use Rattle.iris_treepaths.specs.Needs.{Listed, IsMetShort}
 use Rattle.std.proofs.Common.{map}
 use Rattle.iris_paths.specs.declared.entering.Place.TheVariants.{In}
 use Rattle.iris_paths.specs.Pictured.{Pictured, IsPathLack, IsPathShort, every}

@@ -15,11 +15,11 @@ use Rattle.iris_cache.specs.Drafted.{Drafted}
 use Rattle.iris_cache.specs.Pictures.{Drafts, BodyHolds}
 use Rattle.iris_plain.specs.declared.checks.Seen.{Seen}
 use Rattle.iris_plain.specs.Routes.{parent, last}
-use Rattle.iris_dirtree.specs.Rows.{Row, HasRows, Rearranges, IsCountable}
-use Rattle.iris_dirtree.proofs.Handed.{beside_other, none_below}
-use Rattle.iris_dirtree.specs.Hands.{detached_row, Holding, IsRowNode, HoldsTrue, below_row}
-use Rattle.iris_dirtree.specs.Ways.{is_row_before, along_name}
-use Rattle.iris_dirtree.specs.Needs.{ListedInHand, IsMetShort, IsMet}
+use Rattle.iris_treepaths.specs.Rows.{Row, HasRows, Rearranges, IsCountable}
+use Rattle.iris_treepaths.proofs.Handed.{beside_other, none_below}
+use Rattle.iris_treepaths.specs.Hands.{detached_row, Holding, IsRowNode, HoldsTrue, below_row}
+use Rattle.iris_treepaths.specs.Ways.{is_row_before, along_name}
+use Rattle.iris_treepaths.specs.Needs.{ListedInHand, IsMetShort, IsMet}
 use Rattle.iris_paths.specs.declared.resolving.Found.TheVariants.{At}
 use Rattle.iris_paths.specs.declared.entering.Place.TheVariants.{In}
 use Rattle.iris_paths.specs.Resolving.{Resolves}

@@ -27,11 +27,11 @@ use Rattle.iris_plain.specs.declared.checks.Seen.{Seen}
 use Rattle.iris_plain.specs.declared.checks.Seen.TheVariants.{ADirectory, AFile, Nothing, AFileBefore}
 use Rattle.iris_plain.specs.Checks.{unresolved, move_checks, no_place, then_error, error_if, is_there}
 use Rattle.iris_plain.specs.Routes.{parent, last, is_top, is_front}
-use Rattle.iris_dirtree.specs.Rows.{Row, Content, Directory, File, HasRows, Rearranges, IsCountable, entry_of, up}
-use Rattle.iris_dirtree.specs.Hands.{Holding, IsRowNode, HoldsTrue}
-use Rattle.iris_dirtree.specs.Ways.{Any, is_row_before, has_name, along_name}
-use Rattle.iris_dirtree.specs.Needs.{Listed, ListedInHand, IsMetShort, IsMet}
-use Rattle.iris_dirtree.proofs.Owned.{seen_own}
+use Rattle.iris_treepaths.specs.Rows.{Row, Content, Directory, File, HasRows, Rearranges, IsCountable, entry_of, up}
+use Rattle.iris_treepaths.specs.Hands.{Holding, IsRowNode, HoldsTrue}
+use Rattle.iris_treepaths.specs.Ways.{Any, is_row_before, has_name, along_name}
+use Rattle.iris_treepaths.specs.Needs.{Listed, ListedInHand, IsMetShort, IsMet}
+use Rattle.iris_treepaths.proofs.Owned.{seen_own}
 use Rattle.iris_paths.specs.declared.resolving.Found.{Found}
 use Rattle.iris_paths.specs.declared.resolving.Found.TheVariants.{At}
 use Rattle.iris_paths.specs.declared.entering.Place.TheVariants.{In, Not}
@@ -41,7 +41,7 @@ use Rattle.iris_paths.specs.Following.{Follows, standing_seen, met_seen}
 use Rattle.iris_paths.specs.Entering.{IsDestination, Welcomes}
 use Rattle.iris_paths.specs.Making.{IsWhole}
 use Rattle.iris_paths.specs.Moving.{IsMovable, renamed_row, Takes, Puts, IsSource, IsMoved, IsCarryShort, IsMoveShort}
-use Rattle.iris_dirtree.proofs.Likes.{placed_rows}
+use Rattle.iris_treepaths.proofs.Likes.{placed_rows}
 use Rattle.iris_paths.proofs.Alike.{AnyNamed, any_alike}
 use Rattle.iris_paths.proofs.Reach.{same_reach, other_alike, live_along, live_near, live_folder}
 use Rattle.iris_paths.proofs.Steps.{step, ended}

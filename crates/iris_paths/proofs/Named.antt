@@ -3,8 +3,8 @@ use Rattle.std.proofs.Common.{◌≡◌, ℕ, List, [], ◌∷◌, true, false, 
 use Rattle.iris_shape.specs.Order.{less_name, Rising}
 use Rattle.iris_shape.specs.Treap.{Each}
 use Rattle.iris_shape.proofs.Orders.{less_not}
-use Rattle.iris_dirtree.specs.Rows.{Row, row_name}
-use Rattle.iris_dirtree.specs.Ways.{IsNamed}
+use Rattle.iris_treepaths.specs.Rows.{Row, row_name}
+use Rattle.iris_treepaths.specs.Ways.{IsNamed}
 
 -- no row has a name that a row has
 pub not_both : (rows : List Row) (n : List ℕ) (i : ℕ) → IsNamed rows n None → IsNamed rows n (Some i) → ⊥

@@ -15,9 +15,9 @@ use Rattle.iris_shape.specs.Treap.{Treap, Empty, Over, treap, rows, remove, rows
 use Rattle.iris_shape.proofs.Orders.{ranks, all_apart, falls, parts}
 use Rattle.iris_shape.proofs.Treaps.{every_treap, rows_treap, treap_without}
 use Rattle.iris_shape.proofs.Ways.{way_remove}
-use Rattle.iris_dirtree.specs.Rows.{Row, row_id, row_name, Content, Directory, File, HasRows, IsFolderOf, Rearranges, treap_of_rows, unfolded_rows, entry_of, row_entry, refilled, has_id, up}
-use Rattle.iris_dirtree.specs.Ways.{Any, IsNamed, along, along_name, near_name, is_row_before, has_name}
-use Rattle.iris_dirtree.proofs.Likes.{Placed, placed_rows}
+use Rattle.iris_treepaths.specs.Rows.{Row, row_id, row_name, Content, Directory, File, HasRows, IsFolderOf, Rearranges, treap_of_rows, unfolded_rows, entry_of, row_entry, refilled, has_id, up}
+use Rattle.iris_treepaths.specs.Ways.{Any, IsNamed, along, along_name, near_name, is_row_before, has_name}
+use Rattle.iris_treepaths.proofs.Likes.{Placed, placed_rows}
 use Rattle.iris_paths.proofs.Alike.{Alike, alike_same, alike_refilled, any_alike, along_way, way_along, each_of, any_of, AnyNamed}
 
 -- names of which neither is less than the other are one

@@ -15,9 +15,9 @@ use Rattle.iris_cache.specs.declared.held.Short.{Short}
 use Rattle.iris_cache.specs.declared.held.Short.TheVariants.{Need, NoMemory}
 use Rattle.iris_plain.specs.declared.checks.Seen.{Seen}
 use Rattle.iris_plain.specs.declared.checks.Seen.TheVariants.{ADirectory}
-use Rattle.iris_dirtree.specs.Rows.{Row, HasRows}
-use Rattle.iris_dirtree.specs.Ways.{IsNamed, along_name}
-use Rattle.iris_dirtree.specs.Needs.{Listed, IsDirectory, IsDirNode, IsMet, IsMetLack}
+use Rattle.iris_treepaths.specs.Rows.{Row, HasRows}
+use Rattle.iris_treepaths.specs.Ways.{IsNamed, along_name}
+use Rattle.iris_treepaths.specs.Needs.{Listed, IsDirectory, IsDirNode, IsMet, IsMetLack}
 use Rattle.iris_paths.specs.declared.resolving.Found.{Found}
 use Rattle.iris_paths.specs.declared.resolving.Found.TheVariants.{Missing, ThroughFile}
 use Rattle.iris_paths.specs.Resolving.{root_id, Leads, Resolves, standing_at}

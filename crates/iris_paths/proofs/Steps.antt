@@ -12,9 +12,9 @@ use Rattle.iris_node.specs.Unfolded.{Unfolded, Absent, Folder, Leaf, Even, Split
 use Rattle.iris_cache.specs.Pictures.{IsLike}
 use Rattle.iris_plain.specs.declared.checks.Seen.{Seen}
 use Rattle.iris_plain.specs.declared.checks.Seen.TheVariants.{ADirectory, AFile}
-use Rattle.iris_dirtree.specs.Rows.{Row, HasRows, IsFolderOf}
-use Rattle.iris_dirtree.specs.Ways.{IsNamed}
-use Rattle.iris_dirtree.specs.Needs.{IsDirNode, IsDirBody}
+use Rattle.iris_treepaths.specs.Rows.{Row, HasRows, IsFolderOf}
+use Rattle.iris_treepaths.specs.Ways.{IsNamed}
+use Rattle.iris_treepaths.specs.Needs.{IsDirNode, IsDirBody}
 use Rattle.iris_paths.specs.declared.resolving.Found.{Found}
 use Rattle.iris_paths.specs.declared.resolving.Found.TheVariants.{At, Missing, ThroughFile}
 use Rattle.iris_paths.specs.Resolving.{Leads, standing, standing_at, here, file, none, onward}

@@ -20,10 +20,10 @@ use Rattle.iris_plain.specs.declared.checks.Seen.{Seen}
 use Rattle.iris_plain.specs.declared.checks.Seen.TheVariants.{ADirectory, AFile, Nothing, AFileBefore}
 use Rattle.iris_plain.specs.Checks.{new_name, no_place, is_there}
 use Rattle.iris_plain.specs.Routes.{parent, last, is_top}
-use Rattle.iris_dirtree.specs.Rows.{Row, HasRows}
-use Rattle.iris_dirtree.specs.Ways.{IsNamed, along_name}
-use Rattle.iris_dirtree.specs.Needs.{Listed, IsMetLack, IsMet}
-use Rattle.iris_dirtree.proofs.Owned.{seen_own}
+use Rattle.iris_treepaths.specs.Rows.{Row, HasRows}
+use Rattle.iris_treepaths.specs.Ways.{IsNamed, along_name}
+use Rattle.iris_treepaths.specs.Needs.{Listed, IsMetLack, IsMet}
+use Rattle.iris_treepaths.proofs.Owned.{seen_own}
 use Rattle.iris_paths.specs.declared.resolving.Found.TheVariants.{Missing}
 use Rattle.iris_paths.specs.declared.entering.Place.TheVariants.{In, Not}
 use Rattle.iris_paths.specs.Resolving.{root_id, standing_at, Resolves, met_by}

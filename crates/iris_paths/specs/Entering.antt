@@ -11,9 +11,9 @@ use Rattle.iris_plain.specs.declared.checks.Seen.{Seen}
 use Rattle.iris_plain.specs.declared.checks.Seen.TheVariants.{ADirectory}
 use Rattle.iris_plain.specs.Checks.{unresolved, then_error, error_if, is_file, no_place}
 use Rattle.iris_plain.specs.Routes.{parent, last}
-use Rattle.iris_dirtree.specs.Rows.{Row, HasRows}
-use Rattle.iris_dirtree.specs.Ways.{IsNamed, along_name}
-use Rattle.iris_dirtree.specs.Needs.{IsDirectory, IsMet}
+use Rattle.iris_treepaths.specs.Rows.{Row, HasRows}
+use Rattle.iris_treepaths.specs.Ways.{IsNamed, along_name}
+use Rattle.iris_treepaths.specs.Needs.{IsDirectory, IsMet}
 use Rattle.iris_paths.specs.declared.resolving.Found.{Found}
 use Rattle.iris_paths.specs.declared.resolving.Found.TheVariants.{At}
 use Rattle.iris_paths.specs.declared.entering.Place.{Place}

@@ -5,9 +5,9 @@ use Rattle.iris_name.specs.declared.name.Name.{Name}
 use Rattle.iris_name.specs.declared.request.Reply.{Reply}
 use Rattle.iris_name.specs.declared.request.Reply.TheVariants.{Names}
 use Rattle.iris_node.specs.Trees.{Shown}
-use Rattle.iris_dirtree.specs.Rows.{Row, row_name, HasRows}
-use Rattle.iris_dirtree.specs.Ways.{following, along_page}
-use Rattle.iris_dirtree.specs.Needs.{IsMet}
+use Rattle.iris_treepaths.specs.Rows.{Row, row_name, HasRows}
+use Rattle.iris_treepaths.specs.Ways.{following, along_page}
+use Rattle.iris_treepaths.specs.Needs.{IsMet}
 use Rattle.iris_paths.specs.declared.resolving.Found.TheVariants.{At}
 use Rattle.iris_paths.specs.Resolving.{Resolves}
 use Rattle.iris_paths.specs.Pictured.{IsOnTrail}

@@ -8,7 +8,7 @@ use Rattle.iris_node.specs.declared.node.Body.TheVariants as body
 use Rattle.iris_node.specs.Trees.{Shown}
 use Rattle.iris_node.specs.Unfolded.{Absent, Even}
 use Rattle.iris_cache.specs.Laws.{AreFormed}
-use Rattle.iris_dirtree.specs.Rows.{Row, Content, Directory, File, IsRooted}
+use Rattle.iris_treepaths.specs.Rows.{Row, Content, Directory, File, IsRooted}
 
 -- an empty directory, or an empty file
 abbrev pub empty_content : Bool → Content

@@ -14,10 +14,10 @@ use Rattle.iris_cache.specs.Pictures.{Drafts}
 use Rattle.iris_plain.specs.declared.checks.Seen.{Seen}
 use Rattle.iris_plain.specs.Checks.{unresolved, move_checks, no_place}
 use Rattle.iris_plain.specs.Routes.{parent, last, is_top, is_front}
-use Rattle.iris_dirtree.specs.Rows.{Row, HasRows, Rearranges, IsCountable}
-use Rattle.iris_dirtree.specs.Ways.{Any, is_row_before, has_name, along_name, near_name}
+use Rattle.iris_treepaths.specs.Rows.{Row, HasRows, Rearranges, IsCountable}
+use Rattle.iris_treepaths.specs.Ways.{Any, is_row_before, has_name, along_name, near_name}
 use Rattle.iris_cache.specs.Needs.{IsWanted}
-use Rattle.iris_dirtree.specs.Needs.{IsDirectory, Listed, IsMet, IsMetShort}
+use Rattle.iris_treepaths.specs.Needs.{IsDirectory, Listed, IsMet, IsMetShort}
 use Rattle.iris_paths.specs.declared.resolving.Found.TheVariants.{At}
 use Rattle.iris_paths.specs.declared.entering.Place.{Place}
 use Rattle.iris_paths.specs.declared.entering.Place.TheVariants.{In, Not}

@@ -12,9 +12,9 @@ use Rattle.iris_cache.specs.Drafted.{Drafted, seen}
 use Rattle.iris_cache.specs.Pictures.{Drafts}
 use Rattle.iris_plain.specs.declared.checks.Seen.{Seen}
 use Rattle.iris_plain.specs.declared.checks.Seen.TheVariants.{ADirectory}
-use Rattle.iris_dirtree.specs.Rows.{Row, HasRows}
-use Rattle.iris_dirtree.specs.Ways.{IsNamed, along_name}
-use Rattle.iris_dirtree.specs.Needs.{IsDirectory, IsMet}
+use Rattle.iris_treepaths.specs.Rows.{Row, HasRows}
+use Rattle.iris_treepaths.specs.Ways.{IsNamed, along_name}
+use Rattle.iris_treepaths.specs.Needs.{IsDirectory, IsMet}
 use Rattle.iris_paths.specs.declared.resolving.Found.{Found}
 use Rattle.iris_paths.specs.declared.resolving.Found.TheVariants.{At, Missing, ThroughFile}
 use Rattle.iris_paths.specs.Resolving.{root_id, standing_at, Meets}

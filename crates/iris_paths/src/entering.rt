@@ -3,7 +3,7 @@
 ghost use Rattle.std.specs.Prelude.{◌≡◌, ◌<◌, ◌-◌, ℕ, List, IfOk, IfErr, length, Some};
 ghost use Rattle.iris_node.specs.Trees.{Shown};
 ghost use Rattle.iris_plain.specs.Routes.{parent, last};
-ghost use Rattle.iris_dirtree.specs.Needs.{IsDirectory};
+ghost use Rattle.iris_treepaths.specs.Needs.{IsDirectory};
 ghost use Rattle.iris_paths.specs.Pictured.{AreInSight, IsOnTrail, IsPathLack, every};
 ghost use Rattle.iris_paths.specs.Following.{Follows};
 ghost use Rattle.iris_paths.specs.Entering.{IsEntered, IsDestination};

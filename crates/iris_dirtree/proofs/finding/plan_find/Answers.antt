@@ -6,9 +6,9 @@ use Rattle.iris_node.specs.Fields.{EntryFields}
 use Rattle.iris_cache.specs.Drafted.{seen}
 use Rattle.iris_dirtree.specs.Found.{entry_of_node}
 use Rattle.iris_node.specs.Trees.{Shown}
-use Rattle.iris_dirtree.specs.Rows.{Row}
-use Rattle.iris_dirtree.specs.Ways.{along_name}
-use Rattle.iris_dirtree.specs.Needs.{Listed}
+use Rattle.iris_treepaths.specs.Rows.{Row}
+use Rattle.iris_treepaths.specs.Ways.{along_name}
+use Rattle.iris_treepaths.specs.Needs.{Listed}
 use Rattle.iris_dirtree.proofs.Searches.{Search, search_top, search_none, search_long, search_gone, search_lacks, search_here, search_right, search_left}
 use Rattle.iris_dirtree.proofs.Stands.{link_lack}
 use Rattle.iris_dirtree.proofs.finding.plan_find.Goals as goal

@@ -1,7 +1,7 @@
 use Rattle.std.proofs.Common.{ℕ, List, suc}
 use Rattle.iris_node.specs.Trees.{Shown}
-use Rattle.iris_dirtree.specs.Rows.{Row}
-use Rattle.iris_dirtree.specs.Needs.{Listed}
+use Rattle.iris_treepaths.specs.Rows.{Row}
+use Rattle.iris_treepaths.specs.Needs.{Listed}
 use Rattle.iris_dirtree.proofs.Searches.{Search}
 use Rattle.iris_dirtree.proofs.finding.plan_find.Given as goal
 

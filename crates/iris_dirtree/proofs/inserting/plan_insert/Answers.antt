@@ -1,9 +1,9 @@
 use Rattle.std.proofs.Common.{◌≤◌, ap, ◌∙◌, arith}
 use Rattle.iris_shape.specs.Treap.{keep, skip}
-use Rattle.iris_dirtree.specs.Ways.{is_row_before}
-use Rattle.iris_dirtree.proofs.Finishing.{inserted}
-use Rattle.iris_dirtree.proofs.Fitting.{row_node_id}
-use Rattle.iris_dirtree.proofs.Insertions.{each_parts}
+use Rattle.iris_treepaths.specs.Ways.{is_row_before}
+use Rattle.iris_dirtree.proofs.PlanEnds.{inserted}
+use Rattle.iris_treepaths.proofs.RowNodes.{row_node_id}
+use Rattle.iris_treepaths.proofs.RowsWith.{each_parts}
 use Rattle.iris_dirtree.proofs.inserting.plan_insert.Goals as goal
 
 pub returns-clause-inserted : goal.returns-clause-inserted

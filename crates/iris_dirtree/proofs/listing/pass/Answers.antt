@@ -8,10 +8,10 @@ use Rattle.iris_node.specs.Fields.{EntryFields}
 use Rattle.iris_node.specs.Trees.{Shown}
 use Rattle.iris_shape.specs.Treap.{Treap}
 use Rattle.iris_cache.specs.Drafted.{seen}
-use Rattle.iris_dirtree.specs.Rows.{Row}
+use Rattle.iris_treepaths.specs.Rows.{Row}
 use Rattle.iris_dirtree.specs.Found.{entry_of_node}
 use Rattle.iris_dirtree.specs.Piles.{Tables, Piling}
-use Rattle.iris_dirtree.proofs.Pilings.{piling_none, piling_long, piling_gone, piling_lacks, piling_left, piling_right, under_short}
+use Rattle.iris_dirtree.proofs.PassedRows.{piling_none, piling_long, piling_gone, piling_lacks, piling_left, piling_right, under_short}
 use Rattle.iris_dirtree.proofs.listing.pass.Goals as goal
 use Rattle.iris_dirtree.proofs.listing.pass.Goals.{In-Some, After-is_past, then-is_past+in_ok-put_last, else-is_past}
 

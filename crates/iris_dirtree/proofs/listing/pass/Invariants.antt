@@ -1,7 +1,7 @@
 use Rattle.std.proofs.Common.{List, suc}
 use Rattle.iris_node.specs.Trees.{Shown}
 use Rattle.iris_shape.specs.Treap.{Treap}
-use Rattle.iris_dirtree.specs.Rows.{Row}
+use Rattle.iris_treepaths.specs.Rows.{Row}
 use Rattle.iris_dirtree.specs.Piles.{Tables, Piling}
 use Rattle.iris_dirtree.proofs.listing.pass.Given as goal
 

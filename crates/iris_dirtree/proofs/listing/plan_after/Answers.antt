@@ -8,8 +8,8 @@ use Rattle.iris_node.specs.Fields.{EntryFields}
 use Rattle.iris_node.specs.Trees.{Shown}
 use Rattle.iris_shape.specs.Treap.{treap}
 use Rattle.iris_cache.specs.Drafted.{seen}
-use Rattle.iris_dirtree.specs.Needs.{Listed}
-use Rattle.iris_dirtree.specs.Rows.{Row, up}
+use Rattle.iris_treepaths.specs.Needs.{Listed}
+use Rattle.iris_treepaths.specs.Rows.{Row, up}
 use Rattle.iris_dirtree.specs.Found.{entry_of_node}
 use Rattle.iris_dirtree.specs.Piles.{Piled}
 use Rattle.iris_dirtree.proofs.Listings.{Page, tables_of, page_top, page_end, page_full, page_gone, page_next, page_short}

@@ -1,7 +1,7 @@
 use Rattle.std.proofs.Common.{ℕ, List}
 use Rattle.iris_node.specs.Trees.{Shown}
-use Rattle.iris_dirtree.specs.Rows.{Row}
-use Rattle.iris_dirtree.specs.Needs.{Listed}
+use Rattle.iris_treepaths.specs.Rows.{Row}
+use Rattle.iris_treepaths.specs.Needs.{Listed}
 use Rattle.iris_dirtree.proofs.Listings.{Page}
 use Rattle.iris_dirtree.proofs.listing.plan_after.Given as goal
 

@@ -6,7 +6,7 @@ use Rattle.iris_cache.specs.Drafted.{seen}
 use Rattle.iris_dirtree.specs.Turns.{IsTurn}
 use Rattle.iris_dirtree.specs.Found.{entry_of_node}
 use Rattle.iris_dirtree.specs.declared.placing.Turn.TheVariants.{Under}
-use Rattle.iris_dirtree.proofs.Placings.{sunk_top, sunk_lacks, sunk_gone, sunk_long, sunk_own, sunk_end, sunk_down, below_lack}
+use Rattle.iris_dirtree.proofs.BlockPlaces.{sunk_top, sunk_lacks, sunk_gone, sunk_long, sunk_own, sunk_end, sunk_down, below_lack}
 use Rattle.iris_dirtree.proofs.placing.block_below.Goals as goal
 use Rattle.iris_dirtree.proofs.placing.block_below.Goals.{In-Some}
 

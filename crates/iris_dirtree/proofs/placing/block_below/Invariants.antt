@@ -1,7 +1,7 @@
 use Rattle.iris_node.specs.Trees.{Shown}
 use Rattle.iris_node.specs.Unfolded.{Unfolded}
 use Rattle.iris_dirtree.specs.Below.{RootIs}
-use Rattle.iris_dirtree.proofs.Placings.{Sunk}
+use Rattle.iris_dirtree.proofs.BlockPlaces.{Sunk}
 use Rattle.iris_dirtree.proofs.placing.block_below.Given as goal
 
 -- the block lies under the link

@@ -1,6 +1,6 @@
 use Rattle.std.proofs.Common.{◌≡◌, ◌∙◌, ◌+◌, ◌<◌, MatchOption, ap, sym, subst}
 use Rattle.std.specs.Option.{option_copied}
-use Rattle.iris_dirtree.proofs.Placings.{not_seen, root_blocks}
+use Rattle.iris_dirtree.proofs.BlockPlaces.{not_seen, root_blocks}
 use Rattle.iris_dirtree.proofs.placing.past_root.Goals as goal
 
 pub returns-in-None-clause-past : goal.returns-in-None-clause-past

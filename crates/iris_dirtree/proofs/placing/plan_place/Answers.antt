@@ -7,7 +7,7 @@ use Rattle.iris_node.specs.Walk.{walk}
 use Rattle.iris_dirtree.specs.Below.{RootIs, IsBelowLack}
 use Rattle.iris_dirtree.specs.Places.{Rooted, whole_walk, IsPlaceLack}
 use Rattle.iris_dirtree.specs.Turns.{block_found}
-use Rattle.iris_dirtree.proofs.Placings.{root_of, trash_of, walk_first, walk_second, walk_past, first_lack, second_lack}
+use Rattle.iris_dirtree.proofs.BlockPlaces.{root_of, trash_of, walk_first, walk_second, walk_past, first_lack, second_lack}
 use Rattle.iris_dirtree.proofs.placing.plan_place.Goals as goal
 use Rattle.iris_dirtree.proofs.placing.plan_place.Goals.{In_default, In-Some, In-None, In-Some-2}
 

@@ -1,13 +1,13 @@
 use Rattle.std.proofs.Common.{◌≡◌, List, None, ℕ, sym, subst}
 use Rattle.iris_node.specs.Fields.{EntryFields}
 use Rattle.iris_shape.specs.Treap.{treap, rows_without}
-use Rattle.iris_dirtree.specs.Hands.{IsRowNode, HoldsTrue}
-use Rattle.iris_dirtree.specs.Nodes.{between}
-use Rattle.iris_dirtree.specs.Planted.{Planted}
-use Rattle.iris_dirtree.specs.Rows.{Rearranges, treap_of_rows, up}
-use Rattle.iris_dirtree.specs.Ways.{has_name}
-use Rattle.iris_dirtree.proofs.Finishing.{removed}
-use Rattle.iris_dirtree.proofs.Planting.{few_inside}
+use Rattle.iris_treepaths.specs.Hands.{IsRowNode, HoldsTrue}
+use Rattle.iris_treepaths.specs.Nodes.{between}
+use Rattle.iris_treepaths.specs.Planted.{Planted}
+use Rattle.iris_treepaths.specs.Rows.{Rearranges, treap_of_rows, up}
+use Rattle.iris_treepaths.specs.Ways.{has_name}
+use Rattle.iris_dirtree.proofs.PlanEnds.{removed}
+use Rattle.iris_dirtree.proofs.PlantedTreaps.{few_inside}
 use Rattle.iris_dirtree.proofs.removing.plan_remove.Goals as goal
 
 pub returns-clause-removed : goal.returns-clause-removed

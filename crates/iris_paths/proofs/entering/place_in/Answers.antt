@@ -1,7 +1,7 @@
 use Rattle.std.proofs.Common.{◌∙◌, None, Some, subst}
 use Rattle.std.proofs.lemmas.Result.{err_from_is_err_and}
-use Rattle.iris_dirtree.specs.Ways.{IsNamed, along_name}
-use Rattle.iris_dirtree.specs.Needs.{Listed, IsMetLack}
+use Rattle.iris_treepaths.specs.Ways.{IsNamed, along_name}
+use Rattle.iris_treepaths.specs.Needs.{Listed, IsMetLack}
 use Rattle.iris_paths.proofs.Welcome.{last_at, find_lacks, free, full}
 use Rattle.iris_paths.proofs.entering.place_in.Goals as goal
 

@@ -1,7 +1,7 @@
 use Rattle.std.proofs.Common.{◌++◌, ℕ, List, drop}
 use Rattle.iris_node.specs.Trees.{Shown}
 use Rattle.iris_plain.specs.declared.checks.Seen.{Seen}
-use Rattle.iris_dirtree.specs.Needs.{IsDirectory}
+use Rattle.iris_treepaths.specs.Needs.{IsDirectory}
 use Rattle.iris_paths.specs.Resolving.{Resolves}
 use Rattle.iris_paths.specs.Pictured.{Pictured, IsInSight}
 use Rattle.iris_paths.specs.declared.resolving.Found.{Found}

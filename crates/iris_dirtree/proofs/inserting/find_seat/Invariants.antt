@@ -1,0 +1,20 @@
+use Rattle.std.proofs.Common.{◌≡◌, Bool, false}
+use Rattle.iris_name.specs.Hmac.{priority}
+use Rattle.iris_name.specs.declared.name.Name.{Name}
+use Rattle.iris_node.specs.Rules.{IsLinkToNamed}
+use Rattle.iris_node.specs.Trees.{Shown}
+use Rattle.iris_shape.specs.Order.{beats}
+use Rattle.iris_shape.specs.Treap.{Treap, Each}
+use Rattle.iris_treepaths.specs.Crumbs.{AreNamed}
+use Rattle.iris_dirtree.specs.Descents.{Stands, Walked}
+use Rattle.iris_treepaths.specs.Paths.{Frame}
+use Rattle.iris_treepaths.specs.Rows.{Row}
+use Rattle.iris_dirtree.proofs.inserting.find_seat.Given as goal
+
+abbrev pub invariant-loop-step : goal.invariant-loop-step
+invariant-loop-step l = record {
+  named : AreNamed l.path.items;
+  linked : IsLinkToNamed l.at;
+  walked : (old new : Shown) → (t : Treap Row) → (lasts : Name → Bool) → (p : Name) → Stands old new l.cache t lasts l.draft p l.fn.top t
+      → (w : Walked old new l.cache lasts l.draft p l.name t l.path.items l.at) × Each (λ (f : Frame). beats (priority l.keys.order) l.id.0 f.row.id ≡ false) w.front;
+}

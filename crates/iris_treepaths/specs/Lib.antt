@@ -1,0 +1,12 @@
+pub mod Rows
+pub mod Hands
+pub mod Ways
+pub mod Needs
+pub mod Planted
+pub mod Nodes
+pub mod Paths
+pub mod Crumbs
+pub mod Counts
+pub mod Lags
+pub mod Reached
+pub mod Laws
