@@ -1,4 +1,4 @@
 use Rattle.iris_kept.proofs.upkeep_reaches_nothing.Goals as goal
 
 pub returns : goal.returns
-returns g c = λ keys past n. (λ h. h, λ h. h)
+returns c = λ keys past n. (λ h. h, λ h. h)
