@@ -140,67 +140,94 @@ pub fn read_lines(alloc: Global, script: &[u8]) -> Result<Vec<Line>, LineError>
 #[cfg(test)]
 mod tests {
     use super::*;
-    use std::process::Abort;
     use std::test::Fail;
-
-    fn expect_bad(rt: &impl Abort, alloc: Global, line: &[u8]) -> Result<(), Fail> {
-        assert!(rt; read_line(alloc, line)?.is_none(), "{line:?}");
-        Ok(())
-    }
 
     // A form more than the two, which the definition would share.
     #[test]
     fn refuses_other_lines(rt: HostRuntime) -> Result<(), Fail> {
-        let alloc = rt.alloc();
-        expect_bad(&rt, alloc, b"write 65536 00")?;
-        expect_bad(&rt, alloc, b"write 0  00")?;
-        expect_bad(&rt, alloc, b" read 0")?;
-        expect_bad(&rt, alloc, b"read 0 ")?;
-        expect_bad(&rt, alloc, b"read 00")?;
-        expect_bad(&rt, alloc, b"read 0\r")?;
-        expect_bad(&rt, alloc, b"")?;
-        expect_bad(&rt, alloc, b"# x")?;
-        expect_bad(&rt, alloc, b"write 0 -")?;
-        expect_bad(&rt, alloc, b"write 0")?;
-        expect_bad(&rt, alloc, b"1 read 0")
+        let lines: [&[u8]; 11] = [
+            b"write 65536 00",
+            b"write 0  00",
+            b" read 0",
+            b"read 0 ",
+            b"read 00",
+            b"read 0\r",
+            b"",
+            b"# x",
+            b"write 0 -",
+            b"write 0",
+            b"1 read 0",
+        ];
+        for line in lines {
+            assert!(rt; read_line(rt.alloc(), line)?.is_none(), "{line:?}");
+        }
+        Ok(())
+    }
+
+    // The line that writes so many zeros at the last place.
+    fn zeros(alloc: Global, count: usize) -> Result<String, Fail> {
+        let digits = "00".repeat(alloc, count)?;
+        Ok(format!(in alloc; "write 65535 {digits}")?)
+    }
+
+    // The place and the count of bytes of the write that a line is, if it is one.
+    fn size_of_write(alloc: Global, line: &[u8]) -> Result<Option<(u32, usize)>, Fail> {
+        match read_line(alloc, line)? {
+            Some(Line::Write { place, bytes }) => Ok(Some((place, bytes.as_slice().len()))),
+            Some(Line::Read { .. }) | None => Ok(None),
+        }
+    }
+
+    // Whether a line writes these bytes at place 0.
+    fn writes(alloc: Global, line: &[u8], wanted: &[u8]) -> Result<bool, Fail> {
+        match read_line(alloc, line)? {
+            Some(Line::Write { place, bytes }) => Ok(place == 0 && bytes.as_slice() == wanted),
+            Some(Line::Read { .. }) | None => Ok(false),
+        }
     }
 
     // A block of one byte more or less, and the case of digits.
     #[test]
     fn reads_blocks(rt: HostRuntime) -> Result<(), Fail> {
-        let alloc = rt.alloc();
-        let mut script = Vec::from_slice(alloc, b"write 65535 ")?;
-        for _ in 0..8192 {
-            script.push(b'0')?;
+        for (count, wanted) in [(4096, Some((65535, 4096))), (4097, None)] {
+            let line = zeros(rt.alloc(), count)?;
+            assert_eq!(rt; size_of_write(rt.alloc(), line.as_bytes())?, wanted);
         }
-        let Some(Line::Write { place, bytes }) = read_line(alloc, script.as_slice())? else {
-            return Err("4,096 bytes")?;
-        };
-        assert_eq!(rt; place, 65535);
-        assert_eq!(rt; bytes.as_slice().len(), 4096);
-        script.extend_from_slice(b"00")?;
-        expect_bad(&rt, alloc, script.as_slice())?;
-        let Some(Line::Write { place, bytes }) = read_line(alloc, b"write 0 6A6b")? else {
-            return Err("two bytes")?;
-        };
-        assert_eq!(rt; place, 0);
-        assert_eq!(rt; bytes.as_slice(), b"jk".as_slice());
+        assert!(rt; writes(rt.alloc(), b"write 0 6A6b", b"jk")?);
         Ok(())
+    }
+
+    // How many lines a script has, or the fault that it is refused by.
+    fn count(alloc: Global, script: &[u8]) -> Result<usize, LineError> {
+        match read_lines(alloc, script) {
+            Ok(lines) => Ok(lines.len()),
+            Err(fault) => Err(fault),
+        }
+    }
+
+    // Whether the second line of a script reads place 7.
+    fn reads_seven(alloc: Global, script: &[u8]) -> Result<bool, Fail> {
+        let lines = read_lines(alloc, script)?;
+        Ok(matches!(lines.as_slice().get(1), Some(Line::Read { place: 7 })))
     }
 
     // A line counted from 0, or the last line lost.
     #[test]
     fn reads_scripts(rt: HostRuntime) -> Result<(), Fail> {
-        let alloc = rt.alloc();
-        assert_eq!(rt; read_lines(alloc, b"")?.len(), 0);
-        let lines = read_lines(alloc, b"write 0 6869\nread 7")?;
-        assert_eq!(rt; lines.len(), 2);
-        assert!(rt; matches!(&lines[1], Line::Read { place: 7 }));
-        assert_eq!(rt; read_lines(alloc, b"read 0\nread 1\n")?.len(), 2);
-        let fault = read_lines(alloc, b"read 0\n\nread 1\n").err();
-        assert_eq!(rt; fault, Some(LineError::NotRequest { line: 2 }));
-        let fault = read_lines(alloc, b"write 65536 00\n").err();
-        assert_eq!(rt; fault, Some(LineError::NotRequest { line: 1 }));
+        let scripts: [(&[u8], Result<usize, LineError>); 5] = [
+            (b"", Ok(0)),
+            (b"write 0 6869\nread 7", Ok(2)),
+            (b"read 0\nread 1\n", Ok(2)),
+            (
+                b"read 0\n\nread 1\n",
+                Err(LineError::NotRequest { line: 2 }),
+            ),
+            (b"write 65536 00\n", Err(LineError::NotRequest { line: 1 })),
+        ];
+        for (script, wanted) in scripts {
+            assert_eq!(rt; count(rt.alloc(), script), wanted);
+        }
+        assert!(rt; reads_seven(rt.alloc(), b"write 0 6869\nread 7")?);
         Ok(())
     }
 }

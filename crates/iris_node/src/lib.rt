@@ -17,6 +17,3 @@ pub use reading::decode;
 pub use rules::is_file_name;
 pub use sheet::RECORD_MOST;
 pub use writing::{encode, encode_into, hash_of};
-
-#[cfg(test)]
-mod tests;

@@ -9,6 +9,3 @@ pub mod step;
 pub use checks::Seen;
 pub use files::{Entry, Kind};
 pub use step::Plain;
-
-#[cfg(test)]
-mod tests;

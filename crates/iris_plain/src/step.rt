@@ -74,6 +74,16 @@ impl Plain {
         Ok(Plain { entries, age: 0 })
     }
 
+    /// The same files and directories at another age.
+    pub fn with_age(self, age: u64) -> Plain
+        ensures { state_of_list result ≡ record { files = kind_at self.entries; age = age } }
+    {
+        Plain {
+            entries: self.entries,
+            age,
+        }
+    }
+
     // The checks of a new name at a path.
     fn new_at(&self, names: &[Text]) -> Option<PlainError>
         ensures { result ≡ no_place (seen_at (kind_at self.now.entries)) (is_full self.now.age) names.now }

@@ -9,6 +9,3 @@ pub mod rows;
 pub use folding::{Folded, fold};
 pub use heaping::{Shape, treap};
 pub use rows::Row;
-
-#[cfg(test)]
-mod tests;

@@ -50,7 +50,7 @@ fn stands_before(rows: &[Row], first: u32, second: u32) -> bool
 }
 
 /// Whether priority p of id a stands above priority q of id b.
-pub(crate) fn outranks(p: u64, a: FileId, q: u64, b: FileId) -> bool
+pub fn outranks(p: u64, a: FileId, q: u64, b: FileId) -> bool
     ensures { result ≡ outranks p a.0 q b.0 }
 {
     q < p || (p == q && a.0 < b.0)

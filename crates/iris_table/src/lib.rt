@@ -11,8 +11,3 @@ pub mod trash;
 pub use iris_records::{records_of, root_of};
 pub use iris_rows::law::{steps_stay_sound, views_agree};
 pub use step::Table;
-
-#[cfg(test)]
-mod record_tests;
-#[cfg(test)]
-mod tests;

@@ -1,5 +1,5 @@
 use Rattle.std.proofs.Common.{refl}
-use Rattle.iris_shape.proofs.tests.folds_equal_halves.Goals as goal
+use Rattle.iris_plain_tests.proofs.shapes.folds_equal_halves.Goals as goal
 
 pub fold-requires : goal.fold-requires
 fold-requires g c = (2, refl)

@@ -3,10 +3,10 @@
 ghost use Rattle.std.specs.Prelude.{◌≡◌, IfOk};
 ghost use Rattle.iris_shape.specs.Rows.{DistinctIds};
 
-use crate::rows::outranks;
-use crate::{Folded, Row, Shape, fold, treap};
-use iris_mac::Keys;
+use crate::lines::keys;
 use iris_name::{FileId, Text};
+use iris_shape::rows::outranks;
+use iris_shape::{Folded, Row, Shape, fold, treap};
 use std::alloc::Global;
 use std::test::Fail;
 
@@ -55,16 +55,18 @@ fn more(shape: &Shape) -> &Shape {
     }
 }
 
+fn shape_of_three(alloc: Global) -> Result<Shape, Fail> {
+    let rows = three_rows(alloc)?;
+    Ok(treap(alloc, &keys(), rows.as_slice())?)
+}
+
 #[test]
 fn the_greater_priority_stands_above(rt: HostRuntime) -> Result<(), Fail> {
-    let alloc = rt.alloc();
-    let rows = three_rows(alloc)?;
-    let shape = treap(alloc, &Keys::of(&[0; 32]), rows.as_slice())?;
-    assert_eq!(rt; top(&shape), Some(1));
-    assert_eq!(rt; top(less(&shape)), None);
-    assert_eq!(rt; top(more(&shape)), Some(2));
-    assert_eq!(rt; top(less(more(&shape))), Some(0));
-    assert_eq!(rt; top(more(more(&shape))), None);
+    let shape = shape_of_three(rt.alloc())?;
+    let below = more(&shape);
+    assert_eq!(rt; (top(&shape), top(less(&shape))), (Some(1), None));
+    assert_eq!(rt; (top(below), top(less(below))), (Some(2), Some(0)));
+    assert_eq!(rt; top(more(below)), None);
     Ok(())
 }
 
@@ -102,15 +104,12 @@ fn high(folded: &Folded) -> &Folded {
 
 #[test]
 fn folds_equal_halves(rt: HostRuntime) -> Result<(), Fail> {
-    let alloc = rt.alloc();
-    let even = fold(alloc, &[5, 5, 5, 5])?;
-    assert_eq!(rt; version(&even), Some(5));
-    let uneven = fold(alloc, &[5, 5, 5, 6])?;
-    assert_eq!(rt; version(&uneven), None);
-    assert_eq!(rt; version(low(&uneven)), Some(5));
+    let even = fold(rt.alloc(), &[5, 5, 5, 5])?;
+    let uneven = fold(rt.alloc(), &[5, 5, 5, 6])?;
+    let single = fold(rt.alloc(), &[9])?;
+    assert_eq!(rt; (version(&even), version(&single)), (Some(5), Some(9)));
+    assert_eq!(rt; (version(&uneven), version(low(&uneven))), (None, Some(5)));
     assert_eq!(rt; version(low(high(&uneven))), Some(5));
     assert_eq!(rt; version(high(high(&uneven))), Some(6));
-    let single = fold(alloc, &[9])?;
-    assert_eq!(rt; version(&single), Some(9));
     Ok(())
 }
