@@ -10,7 +10,7 @@ use Rattle.iris_script.specs.Cuts.{lines_of}
 use Rattle.iris_store.specs.declared.Transfer.{Transfer}
 use Rattle.iris.specs.declared.top.Stop.{Stop}
 use Rattle.iris.specs.declared.top.Stop.TheVariants.{BadWords, BadLine, Unread, Unwritten, TooLong, NoMemory}
-use Rattle.iris.specs.Lines.{AllSpell, IsFirstBad, Spells, SpellsNone}
+use Rattle.iris.specs.Lines.{AllSpell, IsFirstBad, SpellsLine, SpellsNone}
 use Rattle.iris.specs.Notes.{replies_of, AnyGetFailed, any_refused, printed}
 use Rattle.iris.specs.Outside.{IsFault}
 use Rattle.iris.specs.Reading.{HasMoreThan, IsAtMostLeft}
@@ -163,10 +163,10 @@ fronts_alike : (before front after rest : List (List ℕ)) (line other : List �
 fronts_alike [] [] after rest line other requests asked e spelled none spells lacks = refl
 fronts_alike [] (x ∷ front) after rest line other requests [] e spelled none spells lacks = absurd spells
 fronts_alike [] (x ∷ front) after rest line other requests (q ∷ asked) e spelled none spells lacks =
-    let same : x ≡ line = cc in absurd (none q (subst (λ l. Spells l q) same spells.0))
+    let same : x ≡ line = cc in absurd (none q (subst (λ l. SpellsLine l q) same spells.0))
 fronts_alike (x ∷ before) [] after rest line other [] asked e spelled none spells lacks = absurd spelled
 fronts_alike (x ∷ before) [] after rest line other (q ∷ requests) asked e spelled none spells lacks =
-    let same : x ≡ other = cc in absurd (lacks q (subst (λ l. Spells l q) same spelled.0))
+    let same : x ≡ other = cc in absurd (lacks q (subst (λ l. SpellsLine l q) same spelled.0))
 fronts_alike (x ∷ before) (y ∷ front) after rest line other [] asked e spelled none spells lacks = absurd spelled
 fronts_alike (x ∷ before) (y ∷ front) after rest line other (q ∷ requests) [] e spelled none spells lacks = absurd spells
 fronts_alike (x ∷ before) (y ∷ front) after rest line other (q ∷ requests) (z ∷ asked) e spelled none spells lacks =

@@ -6,7 +6,7 @@ use Rattle.iris_name.specs.declared.request.Request.{Request}
 use Rattle.iris_script.specs.Cuts.{IsCut, IsByteFree}
 use Rattle.iris_script.specs.Words.{IsHexOf}
 use Rattle.iris_script.proofs.Cutting.{All-IsHexOf, IsCut-same, IsHexOf-same, IsNumber-same, Lacks-decimal, Lacks-not_here}
-use Rattle.iris.specs.Lines.{AllSpell, IsRegisterNumber, IsReadLine, IsWriteLine, Spells, SpellsNone, read_of, write_of}
+use Rattle.iris.specs.Lines.{AllSpell, IsRegisterNumber, IsReadLine, IsWriteLine, SpellsLine, SpellsNone, read_of, write_of}
 use Rattle.iris.specs.Lines.Spells.{Writes, Reads}
 
 -- no blank stands in the number of a register
@@ -58,12 +58,12 @@ forms_differ a b e =
     omega (arith, first)
 
 pub Spells-write : (line words : List ℕ) (place : ℕ) (bytes : List ℕ) → line ≡ codes "write " ++ words
-    → IsWriteLine (codes "write " ++ words) place bytes → Spells line (write_of place bytes)
+    → IsWriteLine (codes "write " ++ words) place bytes → SpellsLine line (write_of place bytes)
 Spells-write line words place bytes e w =
     let P : List ℕ → Type 0 = λ v. IsWriteLine v place bytes in
     Writes place bytes (subst P (sym e) w)
 
-pub Spells-read : (line word : List ℕ) (place : ℕ) → line ≡ codes "read " ++ word → IsRegisterNumber word place → Spells line (read_of place)
+pub Spells-read : (line word : List ℕ) (place : ℕ) → line ≡ codes "read " ++ word → IsRegisterNumber word place → SpellsLine line (read_of place)
 Spells-read line word place e p = Reads place (record { word = word; text = e; is_place = p })
 
 -- a line that begins as a write, but is none
@@ -114,7 +114,7 @@ IsReadLine-same line p q v w =
     IsPlace-same v.word p q v.is_place (subst P (sym e) w.is_place)
 
 -- a line spells one request at most
-pub Spells-same : (line : List ℕ) (r s : Request) → Spells line r → Spells line s → r ≡ s
+pub Spells-same : (line : List ℕ) (r s : Request) → SpellsLine line r → SpellsLine line s → r ≡ s
 Spells-same line r s (Writes p a v) (Writes q b w) = IsWriteLine-same line p q a b v w
 Spells-same line r s (Writes p a v) (Reads q w) = absurd (forms_differ (v.word ++ (codes " " ++ v.digits)) w.word (sym v.text ∙ w.text))
 Spells-same line r s (Reads p v) (Writes q b w) = absurd (forms_differ (w.word ++ (codes " " ++ w.digits)) v.word (sym w.text ∙ v.text))

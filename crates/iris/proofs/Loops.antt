@@ -8,7 +8,7 @@ use Rattle.iris.specs.declared.line.Line.{Line}
 use Rattle.iris.specs.declared.session.Session.{Session}
 use Rattle.iris.specs.Lines.{request_of}
 use Rattle.iris.specs.Said.{silent}
-use Rattle.iris.specs.Session.{Serves, Stops, IsReady, IsFew, IsOneMore, ServedAtMost, IsJudged}
+use Rattle.iris.specs.Session.{Serves, Stops, IsSessionReady, IsFew, IsOneMore, ServedAtMost, IsJudged}
 use Rattle.iris.specs.Top.{IsEmptyLog}
 use Rattle.iris.proofs.Sessions.{keeps_first}
 use Rattle.iris.proofs.Stretches.{serves_more, serves_none, stops_more, stops_first}
@@ -18,7 +18,7 @@ pub record Goes (key : List ℕ) (lines rest : List Line) (old new : Option (Lis
   pub done : List Line
   pub whole : lines ≡ done ++ rest
   pub serves : Serves (map request_of done) old new before after f g silent session.replies
-  pub ready : IsReady key session new
+  pub ready : IsSessionReady key session new
   pub most : ServedAtMost (length done) session
 
 map-append : (xs ys : List Line) → map request_of (xs ++ ys) ≡ map request_of xs ++ map request_of ys
@@ -49,7 +49,7 @@ goes_first key lines old before f s fresh sizes counts versions kept replies = r
 -- one line more
 pub goes_more : (key : List ℕ) (lines rest rest_now : List Line) (line : Line) (old mid new : Option (List Note)) (before between after : Option (List Transfer)) (f g h : ℕ) (s t : Session)
     → Goes key lines rest old mid before between f g s → rest ≡ line ∷ rest_now
-    → IsReady key t new → IsOneMore s t → Serves (request_of line ∷ []) mid new between after g h s.replies t.replies
+    → IsSessionReady key t new → IsOneMore s t → Serves (request_of line ∷ []) mid new between after g h s.replies t.replies
     → Goes key lines rest_now old new before after f h t
 goes_more key lines rest rest_now line old mid new before between after f g h s t a e ready more serves = record {
   done = a.done ++ line ∷ [];

@@ -4,7 +4,7 @@ use Rattle.std.proofs.lemmas.List.{drop_more, drop_all}
 use Rattle.iris_name.specs.declared.request.Request.{Request}
 use Rattle.iris_name.specs.declared.request.Reply.{Reply}
 use Rattle.iris_name.specs.Hmac.{order_key}
-use Rattle.iris_script.specs.Script.{AllAsk, IsScriptFault as IsScriptFault, script_lines}
+use Rattle.iris_script.specs.Script.{AllAsk, IsScriptFault, script_lines}
 use Rattle.iris_script.specs.declared.script.ScriptError.{ScriptError}
 use Rattle.iris_script.specs.declared.script.ScriptError.TheVariants as script
 use Rattle.iris_rows.specs.Changes.{stepped}
@@ -12,7 +12,7 @@ use Rattle.iris_table.specs.Replies.{TableReplies}
 use Rattle.iris_rows.specs.Rows.{Table, empty_table}
 use Rattle.iris.specs.declared.reading.ReadError.{ReadError}
 use Rattle.iris.specs.declared.reading.ReadError.TheVariants as read
-use Rattle.iris.specs.Plain.{AreRight, ArePlain, Served, WasAsked, IsPlainEnd, halt_of_read, halt_of_script}
+use Rattle.iris.specs.Plain.{AreRight, ArePlain, PlainServed, WasAsked, IsPlainEnd, halt_of_read, halt_of_script}
 use Rattle.iris.specs.Reading.{IsAllOf, IsAtMostLeft, MayEnd}
 
 abbrev Call : Type 0
@@ -77,7 +77,7 @@ was_asked (Some told) left_now bytes calls all asks = (all.1, subst (λ z. AllAs
 -- all lines were served
 pub served : (words : List (List ℕ)) (left left_now : Option (List ℕ)) (master order bytes : List ℕ) (calls : List Call) (replies : List Said)
     → ArePlain words master → IsAllOf left left_now bytes → length bytes ≤ 16777216 → AllAsk (script_lines bytes) calls
-    → order ≡ order_key master → AreRight order empty_table calls replies → Served words left left_now replies
+    → order ≡ order_key master → AreRight order empty_table calls replies → PlainServed words left left_now replies
 served words left left_now master order bytes calls replies spoken all short asks ordered right = record {
   master = master;
   spoken = spoken;

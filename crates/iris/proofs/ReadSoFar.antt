@@ -5,7 +5,7 @@ use Rattle.std.proofs.lemmas.List.{append-nil, length-map, length-append}
 use Rattle.std.proofs.lemmas.List.Elements.{All-nil, All-cons, All-append}
 use Rattle.iris_name.specs.declared.request.Request.{Request}
 use Rattle.iris_script.specs.Cuts.{lines_of}
-use Rattle.iris.specs.Lines.{AllSpell, IsFirstBad, IsInRange, Spells, SpellsNone, request_of}
+use Rattle.iris.specs.Lines.{AllSpell, IsFirstBad, IsInRange, SpellsLine, SpellsNone, request_of}
 use Rattle.iris.specs.declared.line.Line.{Line}
 
 -- the lines before the rest were read as these
@@ -22,7 +22,7 @@ so_far_none script = record { before = []; whole = refl; spelled = tt; range = A
 
 -- one line more spells one request more
 AllSpell-push : (lines : List (List ℕ)) (requests : List Request) (line : List ℕ) (request : Request) → AllSpell lines requests
-    → Spells line request → AllSpell (lines ++ line ∷ []) (requests ++ request ∷ [])
+    → SpellsLine line request → AllSpell (lines ++ line ∷ []) (requests ++ request ∷ [])
 AllSpell-push [] [] line request all one = (one, tt)
 AllSpell-push [] (r ∷ requests) line request all one = absurd all
 AllSpell-push (l ∷ lines) [] line request all one = absurd all
@@ -41,7 +41,7 @@ map-push (l ∷ lines) line = ap (λ v. request_of l ∷ v) (map-push lines line
 
 -- one line is read
 pub so_far_more : (script rest line next : List ℕ) (lines : List Line) (found : Line) → IsSoFar script rest lines
-    → lines_of rest ≡ line ∷ lines_of next → length next < length rest → Spells line (request_of found) → IsInRange found
+    → lines_of rest ≡ line ∷ lines_of next → length next < length rest → SpellsLine line (request_of found) → IsInRange found
     → IsSoFar script next (lines ++ found ∷ [])
 so_far_more script rest line next lines found h first shorter one fits =
     let P : List Request → Type 0 = λ v. AllSpell (h.before ++ line ∷ []) v in

@@ -19,7 +19,7 @@ use Rattle.iris_history.specs.Values.{IsRequest, IsReply, AreBytes}
 use Rattle.iris_history.proofs.Growth.{Leaves, clean_more, clean_less, judged_more}
 use Rattle.iris_history.proofs.Pasts.{begun_here, comes_last}
 use Rattle.iris_history.proofs.Records.{got_passing, clean_put}
-use Rattle.iris.specs.Agrees.{Agrees}
+use Rattle.iris.specs.Agrees.{RegistersAgree}
 use Rattle.iris.specs.Answers.{IsRightReply}
 use Rattle.iris.specs.Registers.{Registers, register_at, registers, register_rules, block_name, shown_register, LegalRegisters, BadRegisters, Clean}
 use Rattle.iris_rows.specs.Rows.{zeros}
@@ -29,8 +29,8 @@ use Rattle.iris.proofs.Steps.{noted}
 -- a note that changes no table and is no put keeps all that the code keeps
 pub quiet : (key : List ℕ) (counter notes : ℕ) (versions : List ℕ) (kept : List (Option (List ℕ))) (past : Past) (x : Stamped)
     → table key (x ∷ past) ≡ table key past → ((q : ℕ) → last_of (block_name q) (x ∷ past) ≡ last_of (block_name q) past)
-    → Agrees key counter notes versions kept past → BadRegisters key (x ∷ past) ⊎ LegalRegisters key (x ∷ past)
-    → Agrees key counter (notes + 1) versions kept (x ∷ past)
+    → RegistersAgree key counter notes versions kept past → BadRegisters key (x ∷ past) ⊎ LegalRegisters key (x ∷ past)
+    → RegistersAgree key counter (notes + 1) versions kept (x ∷ past)
 quiet key counter notes versions kept past x e l a j = record {
   count = a.count ∙ ap (λ t. t.counter) (sym e);
   notes = omega (arith, a.notes);
@@ -73,7 +73,7 @@ got_lawful key who since p answer past s c =
 
 -- what passes is the block, or it is forged
 got_front : (key : List ℕ) (counter notes : ℕ) (versions : List ℕ) (kept : List (Option (List ℕ))) (who since p : ℕ) (bytes : List ℕ) (past : Past)
-    → Agrees key counter notes versions kept past → since ≡ length past → Clean key past p
+    → RegistersAgree key counter notes versions kept past → since ≡ length past → Clean key past p
     → Passes key 2 p ((table key past).version p) bytes
     → BadRegisters key (got who since p (Given bytes) past) ⊎ (LegalRegisters key (got who since p (Given bytes) past) × (take 4096 bytes ≡ (table key past).block p))
 got_front key counter notes versions kept who since p bytes past a s c pass =
@@ -118,24 +118,24 @@ told who path offset len reply past = noted (Call who (Read path offset len) rep
 
 -- a read that is answered from what is kept
 pub read_here : (key : List ℕ) (counter notes : ℕ) (versions : List ℕ) (kept : List (Option (List ℕ))) (past : Past) (who : ℕ) (path : List ℕ) (offset len : ℕ) (b : List ℕ)
-    → Agrees key counter notes versions kept past → IsRequest (Read path offset len) → AreBytes b → b ≡ (table key past).block (register_at offset)
-    → Agrees key counter (notes + 1) versions kept (told who path offset len (Bytes b) past)
+    → RegistersAgree key counter notes versions kept past → IsRequest (Read path offset len) → AreBytes b → b ≡ (table key past).block (register_at offset)
+    → RegistersAgree key counter (notes + 1) versions kept (told who path offset len (Bytes b) past)
 read_here key counter notes versions kept past who path offset len b a asked bytes e =
     quiet key counter notes versions kept past (noted (Call who (Read path offset len) (Bytes b))) refl (λ q. refl) a
     (judged_more (registers key) (register_rules key) past (noted (Call who (Read path offset len) (Bytes b))) (inl e, asked, bytes) a.judged)
 
 pub read_zeros : (key : List ℕ) (counter notes : ℕ) (versions : List ℕ) (kept : List (Option (List ℕ))) (past : Past) (who : ℕ) (path : List ℕ) (offset len : ℕ)
-    → Agrees key counter notes versions kept past → IsRequest (Read path offset len) → AreBytes zeros → register_at offset < 65536 → get_or versions (register_at offset) 0 ≡ 0
-    → Agrees key counter (notes + 1) versions kept (told who path offset len (Bytes zeros) past)
+    → RegistersAgree key counter notes versions kept past → IsRequest (Read path offset len) → AreBytes zeros → register_at offset < 65536 → get_or versions (register_at offset) 0 ≡ 0
+    → RegistersAgree key counter (notes + 1) versions kept (told who path offset len (Bytes zeros) past)
 read_zeros key counter notes versions kept past who path offset len a asked bytes lt e =
     read_here key counter notes versions kept past who path offset len zeros a asked bytes (sym (unwritten key past (register_at offset) (sym (a.version (register_at offset) lt) ∙ e)))
 
 -- a get, and the reply that its answer gives
 pub read_got : (key : List ℕ) (counter notes : ℕ) (versions : List ℕ) (kept : List (Option (List ℕ))) (past : Past) (who : ℕ) (path : List ℕ) (offset len since : ℕ) (answer : Answer) (reply : Reply)
-    → Agrees key counter notes versions kept past → IsRequest (Read path offset len) → IsReply reply → register_at offset < 65536
+    → RegistersAgree key counter notes versions kept past → IsRequest (Read path offset len) → IsReply reply → register_at offset < 65536
     → get_or versions (register_at offset) 0 ≢ 0 → get_or kept (register_at offset) None ≡ None → since ≡ notes
     → IsRightReply key (register_at offset) (get_or versions (register_at offset) 0) answer reply
-    → Agrees key counter (notes + 2) versions kept (told who path offset len reply (got who since (register_at offset) answer past))
+    → RegistersAgree key counter (notes + 2) versions kept (told who path offset len reply (got who since (register_at offset) answer past))
 read_got key counter notes versions kept past who path offset len since answer reply a asked value lt live none s f =
     let p = register_at offset in
     let v = a.version p lt in
@@ -146,7 +146,7 @@ read_got key counter notes versions kept past who path offset len since answer r
     (judged_more (registers key) (register_rules key) past (noted (Got who since (block_name p) answer)) (got_lawful key who since p answer past since_is c) a.judged) in
     let two = quiet key counter (notes + 1) versions kept (got who since p answer past) (noted (Call who (Read path offset len) reply)) (same_cond (takes_step reply) (table key past)) (λ q. refl) one j in
     let n : (notes + 1) + 1 ≡ notes + 2 = omega arith in
-    subst (λ n. Agrees key counter n versions kept (told who path offset len reply (got who since p answer past))) n two
+    subst (λ n. RegistersAgree key counter n versions kept (told who path offset len reply (got who since p answer past))) n two
   where
     same_cond : (b : Bool) (t : Registers) → cond b t t ≡ t
     same_cond true t = refl

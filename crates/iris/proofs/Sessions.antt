@@ -15,13 +15,13 @@ use Rattle.iris_name.specs.Told.{appended}
 use Rattle.iris_history.specs.Values.{AreBytes, IsReply}
 use Rattle.iris_history.proofs.Growth.{judged_more}
 use Rattle.iris_history.proofs.Pasts.{past_last}
-use Rattle.iris.specs.Agrees.{Agrees, Keeps}
+use Rattle.iris.specs.Agrees.{RegistersAgree, Keeps}
 use Rattle.iris.specs.Answers.{IsRightReply}
 use Rattle.iris.specs.Registers.{registers, register_rules, BadRegisters, LegalRegisters, Clean, register_at, block_name}
 use Rattle.iris_rows.specs.Rows.{zeros}
 use Rattle.iris.specs.declared.session.Session.{Session}
 use Rattle.iris.specs.Lines.{filled_block, read_of}
-use Rattle.iris.specs.Session.{IsJudged, IsReady, HasShape}
+use Rattle.iris.specs.Session.{IsJudged, IsSessionReady, HasShape}
 use Rattle.iris.specs.Shape.{IsShaped, Empty, Wrote, Fetched, Had}
 use Rattle.iris.specs.Top.{IsEmptyLog}
 use Rattle.iris.proofs.Fillings.{path_is_text, bytes_zeros, bytes_filled}
@@ -52,13 +52,13 @@ wrote_told key counter notes versions kept (Some ns) mid new p b bytes request s
     let after : new ≡ Some ((ns ++ Call 1 request Done ∷ []) ++ Put 1 since (block_name p) bytes ok ∷ []) = n ∙ ap (λ z. appended z (Put 1 since (block_name p) bytes ok)) m in
     let place = place_is p in
     let agrees = wrote key counter notes versions kept (past_of (ns ∷ [])) 1 (codes "/f") (p * 4096) b since ok k.0 (subst (λ z. z < length versions) (sym place) v) (subst (λ z. z < length kept) (sym place) w) len s (path_is_text, values) in
-    let here : Agrees key (counter + 1) (notes + 2) (set versions p (counter + 1)) (set kept p (cond ok None (Some b))) (noted (Put 1 since (block_name p) (record_of key 2 p (counter + 1) b) ok) ∷ noted (Call 1 (Write (codes "/f") (p * 4096) b) Done) ∷ past_of (ns ∷ []))
-    = subst (λ z. Agrees key (counter + 1) (notes + 2) (set versions z (counter + 1)) (set kept z (cond ok None (Some b))) (noted (Put 1 since (block_name z) (record_of key 2 z (counter + 1) b) ok) ∷ noted (Call 1 (Write (codes "/f") (p * 4096) b) Done) ∷ past_of (ns ∷ []))) place agrees in
+    let here : RegistersAgree key (counter + 1) (notes + 2) (set versions p (counter + 1)) (set kept p (cond ok None (Some b))) (noted (Put 1 since (block_name p) (record_of key 2 p (counter + 1) b) ok) ∷ noted (Call 1 (Write (codes "/f") (p * 4096) b) Done) ∷ past_of (ns ∷ []))
+    = subst (λ z. RegistersAgree key (counter + 1) (notes + 2) (set versions z (counter + 1)) (set kept z (cond ok None (Some b))) (noted (Put 1 since (block_name z) (record_of key 2 z (counter + 1) b) ok) ∷ noted (Call 1 (Write (codes "/f") (p * 4096) b) Done) ∷ past_of (ns ∷ []))) place agrees in
     let shaped = Wrote (past_of (ns ∷ [])) 0 0 1 since (p * 4096) (codes "/f") b bytes Done ok (omega (arith, s, k.0.notes)) k.1 in
     let shaped' : IsShaped key (noted (Put 1 since (block_name p) bytes ok) ∷ noted (Call 1 request Done) ∷ past_of (ns ∷ []))
     = subst (λ q. IsShaped key (noted (Put 1 since (block_name p) bytes ok) ∷ noted (Call 1 q Done) ∷ past_of (ns ∷ []))) (sym r) (subst (λ z. IsShaped key (noted (Put 1 since (block_name z) bytes ok) ∷ noted (Call 1 (Write (codes "/f") (p * 4096) b) Done) ∷ past_of (ns ∷ []))) place shaped) in
     subst (Keeps key (counter + 1) (notes + 2) (set versions p (counter + 1)) (set kept p held)) (sym after)
-    (subst (λ q. Agrees key (counter + 1) (notes + 2) (set versions p (counter + 1)) (set kept p held) q × IsShaped key q) (sym (past_last_two ns (Call 1 request Done) (Put 1 since (block_name p) bytes ok)))
+    (subst (λ q. RegistersAgree key (counter + 1) (notes + 2) (set versions p (counter + 1)) (set kept p held) q × IsShaped key q) (sym (past_last_two ns (Call 1 request Done) (Put 1 since (block_name p) bytes ok)))
     (rw (r, e, h) here, shaped'))
 
 appended_told : (old : Option (List Note)) (x : Note) (ns : List Note) → old ≡ Some ns → appended old x ≡ Some (ns ++ x ∷ [])
@@ -77,7 +77,7 @@ read_zeros_told key counter notes versions kept (Some ns) new p b request k n r 
     let none : (table key (past_of (ns ∷ []))).version (register_at (p * 4096)) ≡ 0 = sym (k.0.version (register_at (p * 4096)) (subst (λ q. q < 65536) (sym place) lt)) ∙ subst (λ q. get_or versions q 0 ≡ 0) (sym place) z in
     let shaped = Had (past_of (ns ∷ [])) 0 1 (p * 4096) 4096 (codes "/f") (Bytes b) (not_live key (past_of (ns ∷ [])) (register_at (p * 4096)) none) k.1 in
     subst (Keeps key counter (notes + 1) versions kept) (sym n)
-    (subst (λ q. Agrees key counter (notes + 1) versions kept q × IsShaped key q) (sym (past_last ns (Call 1 request (Bytes b)))) (rw (r, e) here, rw r shaped))
+    (subst (λ q. RegistersAgree key counter (notes + 1) versions kept q × IsShaped key q) (sym (past_last ns (Call 1 request (Bytes b)))) (rw (r, e) here, rw r shaped))
 
 pub read_kept_told : (key : List ℕ) (counter notes : ℕ) (versions : List ℕ) (kept : List (Option (List ℕ))) (old new : Option (List Note))
     (p : ℕ) (b : List ℕ) (request : Request)
@@ -91,7 +91,7 @@ read_kept_told key counter notes versions kept (Some ns) new p b request k n r v
     let here = read_here key counter notes versions kept (past_of (ns ∷ [])) 1 (codes "/f") (p * 4096) 4096 b k.0 path_is_text values both.0 in
     let shaped = Had (past_of (ns ∷ [])) 0 1 (p * 4096) 4096 (codes "/f") (Bytes b) both.1 k.1 in
     subst (Keeps key counter (notes + 1) versions kept) (sym n)
-    (subst (λ q. Agrees key counter (notes + 1) versions kept q × IsShaped key q) (sym (past_last ns (Call 1 request (Bytes b)))) (rw r here, rw r shaped))
+    (subst (λ q. RegistersAgree key counter (notes + 1) versions kept q × IsShaped key q) (sym (past_last ns (Call 1 request (Bytes b)))) (rw r here, rw r shaped))
 
 -- the notes of a get and of the read that it is for
 pub read_got_told : (key : List ℕ) (counter notes : ℕ) (versions : List ℕ) (kept : List (Option (List ℕ))) (old mid new : Option (List Note))
@@ -108,15 +108,15 @@ read_got_told key counter notes versions kept (Some ns) mid new p request since 
     let agrees = read_got key counter notes versions kept (past_of (ns ∷ [])) 1 (codes "/f") (p * 4096) 4096 since answer reply k.0 path_is_text value
     (subst (λ q. q < 65536) place lt) (subst (λ q. get_or versions q 0 ≢ 0) place live) (subst (λ q. get_or kept q None ≡ None) place none) s
     (subst (λ q. IsRightReply key q (get_or versions q 0) answer reply) place f) in
-    let here : Agrees key counter (notes + 2) versions kept (noted (Call 1 (Read (codes "/f") (p * 4096) 4096) reply) ∷ noted (Got 1 since (block_name p) answer) ∷ past_of (ns ∷ []))
-    = subst (λ q. Agrees key counter (notes + 2) versions kept (noted (Call 1 (Read (codes "/f") (p * 4096) 4096) reply) ∷ noted (Got 1 since (block_name q) answer) ∷ past_of (ns ∷ []))) (sym place) agrees in
+    let here : RegistersAgree key counter (notes + 2) versions kept (noted (Call 1 (Read (codes "/f") (p * 4096) 4096) reply) ∷ noted (Got 1 since (block_name p) answer) ∷ past_of (ns ∷ []))
+    = subst (λ q. RegistersAgree key counter (notes + 2) versions kept (noted (Call 1 (Read (codes "/f") (p * 4096) 4096) reply) ∷ noted (Got 1 since (block_name q) answer) ∷ past_of (ns ∷ []))) (sym place) agrees in
     let clean = k.0.clean (register_at (p * 4096)) (subst (λ q. q < 65536) place lt) (λ z. live (subst (λ q. get_or versions q 0 ≡ 0) (sym place) (k.0.version (register_at (p * 4096)) (subst (λ q. q < 65536) place lt) ∙ z))) (subst (λ q. get_or kept q None ≡ None) place none) in
     let fits = subst (λ v. IsRightReply key (register_at (p * 4096)) v answer reply) (k.0.version (register_at (p * 4096)) (subst (λ q. q < 65536) place lt)) (subst (λ q. IsRightReply key q (get_or versions q 0) answer reply) place f) in
     let shaped = Fetched (past_of (ns ∷ [])) 0 0 1 since (p * 4096) 4096 (codes "/f") reply answer (omega (arith, s, k.0.notes)) fits clean k.1 in
     let shaped' : IsShaped key (noted (Call 1 request reply) ∷ noted (Got 1 since (block_name p) answer) ∷ past_of (ns ∷ []))
     = subst (λ q. IsShaped key (noted (Call 1 q reply) ∷ noted (Got 1 since (block_name p) answer) ∷ past_of (ns ∷ []))) (sym r) (subst (λ z. IsShaped key (noted (Call 1 (Read (codes "/f") (p * 4096) 4096) reply) ∷ noted (Got 1 since (block_name z) answer) ∷ past_of (ns ∷ []))) (sym place) shaped) in
     subst (Keeps key counter (notes + 2) versions kept) (sym after)
-    (subst (λ q. Agrees key counter (notes + 2) versions kept q × IsShaped key q) (sym (past_last_two ns (Got 1 since (block_name p) answer) (Call 1 request reply)))
+    (subst (λ q. RegistersAgree key counter (notes + 2) versions kept q × IsShaped key q) (sym (past_last_two ns (Got 1 since (block_name p) answer) (Call 1 request reply)))
     (rw r here, shaped'))
 
 drop_nothing : {X : Type 0} (m : ℕ) → drop {A = X} m [] ≡ []
@@ -174,15 +174,15 @@ got_judged key counter notes versions kept (Some ns) new p since answer k e lt l
     (judged_more (registers key) (register_rules key) past (noted (Got 1 since (block_name p) answer)) (got_lawful key 1 since p answer past (s ∙ k.0.notes) clean) k.0.judged))
 
 -- what a ready session says of its notes
-pub ready_judged : (key : List ℕ) (s : Session) (old : Option (List Note)) → IsReady key s old → IsJudged key old
+pub ready_judged : (key : List ℕ) (s : Session) (old : Option (List Note)) → IsSessionReady key s old → IsJudged key old
 ready_judged key s old r = keeps_judged key s.places.counter s.noted s.places.versions.items s.places.kept.items old r.keeps
 
 -- after a read that needs no get
 pub had_ready : (key : List ℕ) (s t : Session) (old mid new : Option (List Note)) (p : ℕ) (b : List ℕ) (request : Request)
-    → IsReady key s old → mid ≡ old → new ≡ appended mid (Call 1 request (Bytes b)) → request ≡ read_of p → p < 65536
+    → IsSessionReady key s old → mid ≡ old → new ≡ appended mid (Call 1 request (Bytes b)) → request ≡ read_of p → p < 65536
     → t.places ≡ s.places → t.noted ≡ s.noted + 1 → AreBytes b
     → Some b ≡ cond (get_or s.places.versions.items p 0 == 0) (Some zeros) (get_or s.places.kept.items p None)
-    → IsReady key t new
+    → IsSessionReady key t new
 had_ready key s t old mid new p b request r m e q lt same noted values found = record {
   versions = ap (λ a. length a.versions.items) same ∙ r.versions;
   kept = ap (λ a. length a.kept.items) same ∙ r.kept;
@@ -199,10 +199,10 @@ had_ready key s t old mid new p b request r m e q lt same noted values found = r
 
 -- after a read with its get
 pub got_ready : (key : List ℕ) (s t : Session) (old mid new : Option (List Note)) (p since : ℕ) (answer : Answer) (reply : Reply) (request : Request)
-    → IsReady key s old → mid ≡ appended old (Got 1 since (block_name p) answer) → new ≡ appended mid (Call 1 request reply) → request ≡ read_of p → p < 65536
+    → IsSessionReady key s old → mid ≡ appended old (Got 1 since (block_name p) answer) → new ≡ appended mid (Call 1 request reply) → request ≡ read_of p → p < 65536
     → t.places ≡ s.places → t.noted ≡ s.noted + 2 → get_or s.places.versions.items p 0 ≢ 0 → get_or s.places.kept.items p None ≡ None → since ≡ s.noted
     → IsReply reply → IsRightReply key p (get_or s.places.versions.items p 0) answer reply
-    → IsReady key t new
+    → IsSessionReady key t new
 got_ready key s t old mid new p since answer reply request r m e q lt same noted live none i value f = record {
   versions = ap (λ a. length a.versions.items) same ∙ r.versions;
   kept = ap (λ a. length a.kept.items) same ∙ r.kept;
@@ -211,12 +211,12 @@ got_ready key s t old mid new p since answer reply request r m e q lt same noted
 
 -- after a write
 pub wrote_ready : (key : List ℕ) (s t : Session) (old mid new : Option (List Note)) (p : ℕ) (b block bytes : List ℕ) (since : ℕ) (ok : Bool) (held : Option (List ℕ)) (request : Request)
-    → IsReady key s old → mid ≡ appended old (Call 1 request Done) → new ≡ appended mid (Put 1 since (block_name p) bytes ok)
+    → IsSessionReady key s old → mid ≡ appended old (Call 1 request Done) → new ≡ appended mid (Put 1 since (block_name p) bytes ok)
     → request ≡ Write (codes "/f") (p * 4096) block → block ≡ filled_block b → bytes ≡ record_of key 2 p (s.places.counter + 1) block → p < 65536
     → length block ≡ 4096 → AreBytes b → since ≡ s.noted + 1 → held ≡ cond ok None (Some (take 4096 bytes))
     → t.places.counter ≡ s.places.counter + 1 → t.places.versions.items ≡ set s.places.versions.items p (s.places.counter + 1) → t.places.kept.items ≡ set s.places.kept.items p held
     → t.noted ≡ s.noted + 2
-    → IsReady key t new
+    → IsSessionReady key t new
 wrote_ready key s t old mid new p b block bytes since ok held request r m e q f w lt len values i h counter versions kept noted =
     let front : take 4096 bytes ≡ block = ap (take 4096) w ∙ take_at block (tag key 2 p (s.places.counter + 1) block) 4096 len in
     record {
@@ -228,7 +228,7 @@ wrote_ready key s t old mid new p b block bytes since ok held request r m e q f 
 
 -- the notes of a write leave the session bad or legal
 pub wrote_judged : (key : List ℕ) (s : Session) (old mid new : Option (List Note)) (p : ℕ) (b block bytes : List ℕ) (since : ℕ) (ok : Bool) (request : Request)
-    → IsReady key s old → mid ≡ appended old (Call 1 request Done) → new ≡ appended mid (Put 1 since (block_name p) bytes ok)
+    → IsSessionReady key s old → mid ≡ appended old (Call 1 request Done) → new ≡ appended mid (Put 1 since (block_name p) bytes ok)
     → request ≡ Write (codes "/f") (p * 4096) block → block ≡ filled_block b → bytes ≡ record_of key 2 p (s.places.counter + 1) block → p < 65536
     → length block ≡ 4096 → AreBytes b → since ≡ s.noted + 1 → IsJudged key new
 wrote_judged key s old mid new p b block bytes since ok request r m e q f w lt len values i =
@@ -237,7 +237,7 @@ wrote_judged key s old mid new p b block bytes since ok request r m e q f w lt l
     (omega (arith, r.versions, lt)) (omega (arith, r.kept, lt)) len (subst AreBytes (sym f) (bytes_filled b values)) i refl)
 
 -- what a ready session says of its shape
-pub ready_shaped : (key : List ℕ) (s : Session) (old : Option (List Note)) → IsReady key s old → HasShape key old
+pub ready_shaped : (key : List ℕ) (s : Session) (old : Option (List Note)) → IsSessionReady key s old → HasShape key old
 ready_shaped key s old r = by_notes old r.keeps where
   by_notes : (old : Option (List Note)) → Keeps key s.places.counter s.noted s.places.versions.items s.places.kept.items old → HasShape key old
   by_notes None k = tt

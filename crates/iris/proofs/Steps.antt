@@ -16,7 +16,7 @@ use Rattle.iris_history.specs.Status.{IsStored}
 use Rattle.iris_history.specs.Values.{IsRequest}
 use Rattle.iris_history.proofs.Growth.{Leaves, clean_more, clean_less, stale, judged_more}
 use Rattle.iris_history.proofs.Pasts.{begun_here, last_began, comes_last}
-use Rattle.iris.specs.Agrees.{Agrees}
+use Rattle.iris.specs.Agrees.{RegistersAgree}
 use Rattle.iris.specs.Registers.{Registers, register_written, register_at, registers, register_rules, block_name, shown_register, LegalRegisters, BadRegisters, Clean}
 use Rattle.iris.proofs.Tables.{table, version_le, live_shown, version_shown, shown_same, same_self, same_other}
 
@@ -82,9 +82,9 @@ judged_write key who path offset b past since ok s values j =
 -- what the code keeps after a write agrees
 pub wrote : (key : List ℕ) (counter notes : ℕ) (versions : List ℕ) (kept : List (Option (List ℕ))) (past : Past)
     (who : ℕ) (path : List ℕ) (offset : ℕ) (b : List ℕ) (since : ℕ) (ok : Bool)
-    → Agrees key counter notes versions kept past
+    → RegistersAgree key counter notes versions kept past
     → register_at offset < length versions → register_at offset < length kept → length b ≡ 4096 → since ≡ notes + 1 → IsRequest (Write path offset b)
-    → Agrees key (counter + 1) (notes + 2) (set versions (register_at offset) (counter + 1)) (set kept (register_at offset) (cond ok None (Some b))) (put key who path offset b counter since ok past)
+    → RegistersAgree key (counter + 1) (notes + 2) (set versions (register_at offset) (counter + 1)) (set kept (register_at offset) (cond ok None (Some b))) (put key who path offset b counter since ok past)
 wrote key counter notes versions kept past who path offset b since ok a in_versions in_kept len s values =
     let t = table key past in
     let p = register_at offset in

@@ -7,7 +7,7 @@ use Rattle.iris.specs.Registers.{registers, Clean, LegalRegisters, BadRegisters}
 use Rattle.iris.specs.Shape.{IsShaped}
 
 -- The counter, the number of notes, the versions, and the blocks whose put failed, agree with the past.
-pub record Agrees (key : List ℕ) (counter noted : ℕ) (versions : List ℕ) (kept : List (Option (List ℕ))) (past : Past) : Type 0 where
+pub record RegistersAgree (key : List ℕ) (counter noted : ℕ) (versions : List ℕ) (kept : List (Option (List ℕ))) (past : Past) : Type 0 where
   pub count : counter ≡ (table_of (registers key) past).counter
   pub notes : noted ≡ length past
   pub version : (p : ℕ) → p < 65536 → slice_index versions p ≡ (table_of (registers key) past).version p
@@ -19,4 +19,4 @@ pub record Agrees (key : List ℕ) (counter noted : ℕ) (versions : List ℕ) (
 -- what the session keeps agrees with its notes, where these are told, and they have the shape that they should
 abbrev pub Keeps : List ℕ → ℕ → ℕ → List ℕ → List (Option (List ℕ)) → Option (List Note) → Type 0
 Keeps key counter noted versions kept None = Unit {0}
-Keeps key counter noted versions kept (Some notes) = Agrees key counter noted versions kept (past_of (notes ∷ [])) × IsShaped key (past_of (notes ∷ []))
+Keeps key counter noted versions kept (Some notes) = RegistersAgree key counter noted versions kept (past_of (notes ∷ [])) × IsShaped key (past_of (notes ∷ []))

@@ -41,20 +41,20 @@ pub record IsReadLine (line : List ℕ) (place : ℕ) : Type 0 where
   pub is_place : IsRegisterNumber word place
 
 -- the line spells the request
-pub data Spells (line : List ℕ) : Request → Type 0 where
-  Writes : (place : ℕ) (bytes : List ℕ) → IsWriteLine line place bytes → Spells line (write_of place bytes)
-  Reads : (place : ℕ) → IsReadLine line place → Spells line (read_of place)
+pub data SpellsLine (line : List ℕ) : Request → Type 0 where
+  Writes : (place : ℕ) (bytes : List ℕ) → IsWriteLine line place bytes → SpellsLine line (write_of place bytes)
+  Reads : (place : ℕ) → IsReadLine line place → SpellsLine line (read_of place)
 
 -- the lines spell the requests, one for one
 abbrev pub AllSpell : List (List ℕ) → List Request → Type 0
 AllSpell [] [] = Unit {0}
-AllSpell (line ∷ lines) (request ∷ requests) = Spells line request × AllSpell lines requests
+AllSpell (line ∷ lines) (request ∷ requests) = SpellsLine line request × AllSpell lines requests
 AllSpell [] (request ∷ requests) = ⊥
 AllSpell (line ∷ lines) [] = ⊥
 
 -- the line spells no request
 abbrev pub SpellsNone : List ℕ → Type 0
-SpellsNone line = (request : Request) → Spells line request → ⊥
+SpellsNone line = (request : Request) → SpellsLine line request → ⊥
 
 -- the n-th line, counted from 1, spells no request, and each before it spells one
 pub record IsFirstBad (lines : List (List ℕ)) (n : ℕ) : Type 0 where

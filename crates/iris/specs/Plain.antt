@@ -50,7 +50,7 @@ WasAsked None left calls = left ≡ None
 WasAsked (Some bytes) left calls = (left ≡ Some []) × AllAsk (script_lines bytes) calls
 
 -- All lines were served from the table of the beginning, with these replies.
-pub record Served (words : List (List ℕ)) (left left_now : Option (List ℕ)) (replies : List (ℕ × Reply)) : Type 0 where
+pub record PlainServed (words : List (List ℕ)) (left left_now : Option (List ℕ)) (replies : List (ℕ × Reply)) : Type 0 where
   pub master : List ℕ
   pub spoken : ArePlain words master
   pub calls : List (ℕ × Request)
@@ -61,12 +61,12 @@ pub record Served (words : List (List ℕ)) (left left_now : Option (List ℕ)) 
 -- what was written is the printing of all replies
 abbrev pub IsPlainPrinted : List (List ℕ) → Option (List ℕ) → Option (List ℕ) → Option (List ℕ) → Option (List ℕ) → Type 0
 IsPlainPrinted words left left_now written written_now =
-    (replies : List (ℕ × Reply)) × Served words left left_now replies × (written_now ≡ extended written (printed_to 16 replies))
+    (replies : List (ℕ × Reply)) × PlainServed words left left_now replies × (written_now ≡ extended written (printed_to 16 replies))
 
 -- what was written is the front of that printing
 abbrev pub IsCutShort : List (List ℕ) → Option (List ℕ) → Option (List ℕ) → Option (List ℕ) → Option (List ℕ) → Type 0
 IsCutShort words left left_now written written_now =
-    (replies : List (ℕ × Reply)) × Served words left left_now replies × ((n : ℕ) × (written_now ≡ extended written (take n (printed_to 16 replies))))
+    (replies : List (ℕ × Reply)) × PlainServed words left left_now replies × ((n : ℕ) × (written_now ≡ extended written (take n (printed_to 16 replies))))
 
 -- the first line that can't be served is this one, and bad so, where the script is told
 abbrev pub FirstLine : (List ℕ → Type 0) → Option (List ℕ) → ℕ → Type 0

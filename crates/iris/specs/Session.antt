@@ -46,7 +46,7 @@ pub record Stops (key : List ℕ) (asked : List Request) (old new : Option (List
   pub judged : IsJudged key new
 
 -- What the session keeps has its sizes, and agrees with its notes.
-pub record IsReady (key : List ℕ) (session : Session) (notes : Option (List Note)) : Type 0 where
+pub record IsSessionReady (key : List ℕ) (session : Session) (notes : Option (List Note)) : Type 0 where
   pub versions : length session.places.versions.items ≡ 65536
   pub kept : length session.places.kept.items ≡ 65536
   pub keeps : Keeps key session.places.counter session.noted session.places.versions.items session.places.kept.items notes

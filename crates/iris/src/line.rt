@@ -3,7 +3,7 @@
 ghost use Rattle.std.specs.Prelude.{◌≡◌, ◌≤◌, ◌++◌, ℕ, List, IfOk, IfErr, IfSome, IfNone, codes, map, length, vec_len};
 ghost use Rattle.std.specs.List.{All};
 ghost use Rattle.iris_script.specs.Cuts.{lines_of};
-ghost use Rattle.iris.specs.Lines.{AllSpell, IsLineFault, IsInRange, IsRegisterNumber, IsWriteLine, Spells, SpellsNone, request_of};
+ghost use Rattle.iris.specs.Lines.{AllSpell, IsLineFault, IsInRange, IsRegisterNumber, IsWriteLine, SpellsLine, SpellsNone, request_of};
 
 use iris_name::{Bytes, NoMemory, PAGE_LEN};
 use iris_script::{cut_at, first_line, read_hex, read_number};
@@ -96,7 +96,7 @@ fn after<'a>(line: &'a [u8], front: &[u8]) -> Option<&'a [u8]>
 /// Reads a line, without its line feed: `write PLACE HEX` or `read PLACE` with single blanks. PLACE is below
 /// 65,536 in decimal, and HEX is 1 to 4,096 bytes in digits of either case.
 pub fn read_line(alloc: Global, line: &[u8]) -> Result<Option<Line>, NoMemory>
-    ensures some { IfOk result (λ read. IfSome read (λ found. Spells line.now (request_of found))) }
+    ensures some { IfOk result (λ read. IfSome read (λ found. SpellsLine line.now (request_of found))) }
     ensures range { IfOk result (λ read. IfSome read IsInRange) }
     ensures none { IfOk result (λ read. IfNone read (SpellsNone line.now)) }
 {

@@ -9,7 +9,7 @@ ghost use Rattle.iris.specs.Agrees.{Keeps};
 ghost use Rattle.iris.specs.Lines.{IsInRange, request_of, write_of, read_of};
 ghost use Rattle.iris_rows.specs.Rows.{zeros as block_of_zeros};
 ghost use Rattle.iris.specs.Said.{saying, silent};
-ghost use Rattle.iris.specs.Session.{Serves, Stops, IsReady, IsFew, IsOneMore, IsJudged, HasShape};
+ghost use Rattle.iris.specs.Session.{Serves, Stops, IsSessionReady, IsFew, IsOneMore, IsJudged, HasShape};
 ghost use Rattle.iris.specs.Top.{IsEmptyLog};
 
 use crate::blocks::{
@@ -103,9 +103,9 @@ fn write_place<S: Store, G: Log>(
     requires place { place < 65536 }
     requires fits { length bytes ≤ PAGE_LEN }
     requires bytes { AreBytes bytes }
-    requires ready { IsReady keys.now.block session.old (G.notes log.old) }
+    requires ready { IsSessionReady keys.now.block session.old (G.notes log.old) }
     requires few { IsFew session.old }
-    ensures ready { OnOk result (IsReady keys.now.block session.new (G.notes log.new)) }
+    ensures ready { OnOk result (IsSessionReady keys.now.block session.new (G.notes log.new)) }
     ensures more { OnOk result (IsOneMore session.old session.new) }
     ensures serves { OnOk result (Serves (write_of place bytes ∷ []) (G.notes log.old) (G.notes log.new) (S.traffic link.old) (S.traffic link.new) (S.faults link.old) (S.faults link.new) session.old.replies session.new.replies) }
     ensures stops { OnErr result (Stops keys.now.block (write_of place bytes ∷ []) (G.notes log.old) (G.notes log.new) (S.traffic link.old) (S.traffic link.new)) }
@@ -147,9 +147,9 @@ fn fetch_place<S: Store, G: Log>(
     requires room { 2 ≤ G.spare log.old }
     requires written { slice_index session.old.places.versions.items place ≢ 0 }
     requires absent { slice_index_or session.old.places.kept.items place None ≡ None }
-    requires ready { IsReady keys.now.block session.old (G.notes log.old) }
+    requires ready { IsSessionReady keys.now.block session.old (G.notes log.old) }
     requires few { IsFew session.old }
-    ensures ready { OnOk result (IsReady keys.now.block session.new (G.notes log.new)) }
+    ensures ready { OnOk result (IsSessionReady keys.now.block session.new (G.notes log.new)) }
     ensures more { OnOk result (IsOneMore session.old session.new) }
     ensures serves { OnOk result (Serves (read_of place ∷ []) (G.notes log.old) (G.notes log.new) (S.traffic link.old) (S.traffic link.new) (S.faults link.old) (S.faults link.new) session.old.replies session.new.replies) }
     ensures stops { OnErr result (Stops keys.now.block (read_of place ∷ []) (G.notes log.old) (G.notes log.new) (S.traffic link.old) (S.traffic link.new)) }
@@ -180,9 +180,9 @@ fn read_place<S: Store, G: Log>(
     place: u32,
 ) -> Result<(), NoMemory>
     requires place { place < 65536 }
-    requires ready { IsReady keys.now.block session.old (G.notes log.old) }
+    requires ready { IsSessionReady keys.now.block session.old (G.notes log.old) }
     requires few { IsFew session.old }
-    ensures ready { OnOk result (IsReady keys.now.block session.new (G.notes log.new)) }
+    ensures ready { OnOk result (IsSessionReady keys.now.block session.new (G.notes log.new)) }
     ensures more { OnOk result (IsOneMore session.old session.new) }
     ensures serves { OnOk result (Serves (read_of place ∷ []) (G.notes log.old) (G.notes log.new) (S.traffic link.old) (S.traffic link.new) (S.faults link.old) (S.faults link.new) session.old.replies session.new.replies) }
     ensures stops { OnErr result (Stops keys.now.block (read_of place ∷ []) (G.notes log.old) (G.notes log.new) (S.traffic link.old) (S.traffic link.new)) }
@@ -206,9 +206,9 @@ fn serve<S: Store, G: Log>(
     line: Line,
 ) -> Result<(), NoMemory>
     requires range { IsInRange line }
-    requires ready { IsReady keys.now.block session.old (G.notes log.old) }
+    requires ready { IsSessionReady keys.now.block session.old (G.notes log.old) }
     requires few { IsFew session.old }
-    ensures ready { OnOk result (IsReady keys.now.block session.new (G.notes log.new)) }
+    ensures ready { OnOk result (IsSessionReady keys.now.block session.new (G.notes log.new)) }
     ensures more { OnOk result (IsOneMore session.old session.new) }
     ensures serves { OnOk result (Serves (request_of line ∷ []) (G.notes log.old) (G.notes log.new) (S.traffic link.old) (S.traffic link.new) (S.faults link.old) (S.faults link.new) session.old.replies session.new.replies) }
     ensures stops { OnErr result (Stops keys.now.block (request_of line ∷ []) (G.notes log.old) (G.notes log.new) (S.traffic link.old) (S.traffic link.new)) }

@@ -15,7 +15,7 @@ use Rattle.iris_node.specs.Fields.{EntryFields, PartFields}
 use Rattle.iris_node.specs.Unfolded.{Unfolded, Absent, Folder, Leaf, Even, Split, Stored, id_of}
 use Rattle.iris_node.specs.Local.{Lead, Local, local, local_of, led, led_by, even, even_by, entry_local}
 use Rattle.iris_cache.specs.Laws.{IsFormed, IsLinked, IsSide, AreFormed}
-use Rattle.iris_cache.specs.Rehash.{whole_part, low_part, high_part}
+use Rattle.iris_cache.specs.Rehash.{top_part, low_part, high_part}
 use Rattle.iris_node.specs.Trees.{Shown, IsParent, IsAbove, IsNodeName, IsTree, node_name}
 use Rattle.iris_cache.specs.Pictures.{IsLike, Holds, LinkHolds, SideHolds, BodyHolds}
 
@@ -56,8 +56,8 @@ entry-child (Leaf id label less more size counter versions) e (File s k v) n x f
 entry-child (Leaf id label less more size counter versions) e (File s k v) n x formed is (inr (inr h)) =
     let q : even versions ≡ even_by v = cc in
     let i : id ≡ e.id.0 = cc in
-    let f : IsSide (whole_part e.id) versions = subst (λ k. IsSide (whole_part (id_of k)) versions) i formed.1.1 in
-    (versions, inr (inr refl), side-name (whole_part e.id) versions v n x q f h)
+    let f : IsSide (top_part e.id) versions = subst (λ k. IsSide (top_part (id_of k)) versions) i formed.1.1 in
+    (versions, inr (inr refl), side-name (top_part e.id) versions v n x q f h)
 entry-child (Folder id label less more inside) e (File s k v) n x formed is h = cc
 entry-child (Leaf id label less more size counter versions) e (Dir top) n x formed is h = cc
 entry-child (Split f l i low high) e (Dir top) n x formed is h = cc
@@ -166,8 +166,8 @@ same-node (Leaf id label less more size counter versions) (Leaf id' label' less'
     let ev : even versions ≡ even versions' = cc in
     let x : less ≡ less' = same-linked less less' el f.0 g.0 (λ m. agree less less' m (inl refl) (inl refl)) in
     let y : more ≡ more' = same-linked more more' em f.1.0 g.1.0 (λ m. agree more more' m (inr (inl refl)) (inr (inl refl))) in
-    let h : IsSide (whole_part (id_of id)) versions' = subst (λ k. IsSide (whole_part (id_of k)) versions') (sym i) g.1.1 in
-    let z : versions ≡ versions' = same-side (whole_part (id_of id)) versions versions' ev f.1.1 h (λ m. agree versions versions' m (inr (inr refl)) (inr (inr refl))) in
+    let h : IsSide (top_part (id_of id)) versions' = subst (λ k. IsSide (top_part (id_of k)) versions') (sym i) g.1.1 in
+    let z : versions ≡ versions' = same-side (top_part (id_of id)) versions versions' ev f.1.1 h (λ m. agree versions versions' m (inr (inr refl)) (inr (inr refl))) in
     λ k. Leaf (i k) (n k) (x k) (y k) (s k) (t k) (z k)
 same-node (Split file level index low high) (Split file' level' index' low' high') l a b f g agree =
     let e : local (Split file level index low high) ≡ local (Split file' level' index' low' high') = a ∙ sym b in
@@ -220,7 +220,7 @@ side-named a (Below y) n x f h = subst IsNodeName (sym h.0) f
 
 body-named : (id : FileId) (b : Body) (n : Name) (x : Hash32) → BodyHolds id b n x → IsNodeName n
 body-named id (Dir top) n x h = link-named top n x h
-body-named id (File size counter versions) n x h = side-named (whole_part id) versions n x tt h
+body-named id (File size counter versions) n x h = side-named (top_part id) versions n x tt h
 
 pub held-named : (k : Node) (n : Name) (x : Hash32) → Holds k n x → IsNodeName n
 held-named (Entry e) n x (inl h) = link-named e.left n x h

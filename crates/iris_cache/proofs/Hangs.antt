@@ -19,7 +19,7 @@ use Rattle.iris_cache.specs.Held.{with_node, is_child, points, with_parent, kid_
 use Rattle.iris_cache.specs.Rehash.{rehashed}
 use Rattle.iris_name.specs.declared.name.Hash32.{Hash32}
 use Rattle.iris_node.specs.declared.node.Node.TheVariants.{Entry, Part}
-use Rattle.iris_cache.specs.Resident.{Resident, held_node, has_room, children, map_if, IsSound}
+use Rattle.iris_cache.specs.Resident.{Resident, held_node, has_room, children, map_if, IsSoundCache}
 use Rattle.iris_cache.proofs.Counts.{sum-updated, sum-same, weight}
 
 abbrev Once : Resident → Type 0
@@ -119,14 +119,14 @@ kids-under p false None h is = absurd (is-none _ h refl is)
 kids-under p true (Some g) h is = ap kids_in (sym is)
 kids-under p false (Some g) h is = ap kids_in (sym is)
 
-kids-of : (c : Resident) (n : Name) → IsSound c → (o : Option Held) → held_node c n ≡ o → IsSome o → kids_in o ≡ children c n
+kids-of : (c : Resident) (n : Name) → IsSoundCache c → (o : Option Held) → held_node c n ≡ o → IsSome o → kids_in o ≡ children c n
 kids-of c n sound None is s = absurd (true≢false (sym s))
 kids-of c n sound (Some g) is s = sound.kids n g is
 
 points-own : (p : Name) → points (Some p) p ≡ true
 points-own p = same_name_equiv.refl p
 
-module _ (c d : Resident) (n : Name) (sound : IsSound c) where
+module _ (c d : Resident) (n : Name) (sound : IsSoundCache c) where
   kids-held : (p : Option Name) (q : Name) (h : Held) → ((q : Name) → held_node d q ≡ map_if (same_name n q) (with_parent p) (held_node c q)) → held_node d q ≡ Some h → h.kids ≡ children c q
   kids-held p q h first is =
       let at = sym (first q) ∙ is in
@@ -134,7 +134,7 @@ module _ (c d : Resident) (n : Name) (sound : IsSound c) where
 
 -- ---- a node without a parent is hung under one
 module _ (c d : Resident) (n : Name) (parent : Option Name) (h0 : Held)
-    (sound : IsSound c) (at : held_node c n ≡ Some h0) (alone : h0.parent ≡ None)
+    (sound : IsSoundCache c) (at : held_node c n ≡ Some h0) (alone : h0.parent ≡ None)
     (first : (q : Name) → held_node d q ≡ map_if (same_name n q) (with_parent parent) (held_node c q)) (od : Once d) where
   pub linked-first : (m : Name) → children d m ≡ children c m + cond (points parent m) 1 0
   linked-first m =
@@ -152,7 +152,7 @@ module _ (c d : Resident) (n : Name) (parent : Option Name) (h0 : Held)
       omega (arith, k, a, l, f, count))
 
 module _ (c d e : Resident) (n : Name) (parent : Option Name) (h0 : Held)
-    (sound : IsSound c) (at : held_node c n ≡ Some h0) (alone : h0.parent ≡ None)
+    (sound : IsSoundCache c) (at : held_node c n ≡ Some h0) (alone : h0.parent ≡ None)
     (first : (q : Name) → held_node d q ≡ map_if (same_name n q) (with_parent parent) (held_node c q))
     (second : (q : Name) → held_node e q ≡ map_if (points parent q) kid_more (held_node d q))
     (od : Once d) (oe : Once e) where
@@ -197,7 +197,7 @@ module _ (c d e : Resident) (n : Name) (parent : Option Name) (h0 : Held)
       own-mapped kid_more (λ g. refl) q (points parent q) (held_node d q) (held_node e q) h (second q) is
       (λ g dis. own-mapped (with_parent parent) (λ k. refl) q (same_name n q) (held_node c q) (held_node d q) g (first q) dis (sound.own q))
 
-  pub linked-sound : e.room ≡ c.room → length e.nodes ≡ length c.nodes → IsSound e
+  pub linked-sound : e.room ≡ c.room → length e.nodes ≡ length c.nodes → IsSoundCache e
   linked-sound room count = record {
     once = oe;
     own = own-linked;
@@ -212,7 +212,7 @@ module _ (c d e : Resident) (n : Name) (parent : Option Name) (h0 : Held)
 
 -- ---- a node is taken from its parent
 module _ (c d : Resident) (n : Name) (h0 : Held)
-    (sound : IsSound c) (at : held_node c n ≡ Some h0)
+    (sound : IsSoundCache c) (at : held_node c n ≡ Some h0)
     (first : (q : Name) → held_node d q ≡ map_if (same_name n q) (with_parent None) (held_node c q)) (od : Once d) where
   pub unlinked-first : (m : Name) → children d m + cond (points h0.parent m) 1 0 ≡ children c m
   unlinked-first m =
@@ -228,7 +228,7 @@ module _ (c d : Resident) (n : Name) (h0 : Held)
       omega (arith, k, a))
 
 module _ (c d e : Resident) (n : Name) (h0 : Held)
-    (sound : IsSound c) (at : held_node c n ≡ Some h0)
+    (sound : IsSoundCache c) (at : held_node c n ≡ Some h0)
     (first : (q : Name) → held_node d q ≡ map_if (same_name n q) (with_parent None) (held_node c q))
     (second : (q : Name) → held_node e q ≡ map_if (points h0.parent q) kid_less (held_node d q))
     (od : Once d) (oe : Once e) where
@@ -266,7 +266,7 @@ module _ (c d e : Resident) (n : Name) (h0 : Held)
       own-mapped kid_less (λ g. refl) q (points h0.parent q) (held_node d q) (held_node e q) h (second q) is
       (λ g dis. own-mapped (with_parent None) (λ k. refl) q (same_name n q) (held_node c q) (held_node d q) g (first q) dis (sound.own q))
 
-  pub unlinked-sound : e.room ≡ c.room → length e.nodes ≡ length c.nodes → IsSound e
+  pub unlinked-sound : e.room ≡ c.room → length e.nodes ≡ length c.nodes → IsSoundCache e
   unlinked-sound room count = record {
     once = oe;
     own = own-unlinked;
@@ -285,7 +285,7 @@ cond-some true v h o A is f g = subst A (ap (λ (x : Option Held). option_unwrap
 cond-some false v h o A is f g = g is
 
 module _ (c e : Resident) (n : Name) (v : Held)
-    (sound : IsSound c) (absent : held_node c n ≡ None) (alone : v.parent ≡ None) (named : name_of v.node ≡ n) (counts : v.kids ≡ children c n)
+    (sound : IsSoundCache c) (absent : held_node c n ≡ None) (alone : v.parent ≡ None) (named : name_of v.node ≡ n) (counts : v.kids ≡ children c n)
     (is : (q : Name) → held_node e q ≡ cond (same_name n q) (Some v) (held_node c q)) (oe : Once e) where
   pub put-children : (m : Name) → children e m ≡ children c m
   put-children m =
@@ -309,7 +309,7 @@ module _ (c e : Resident) (n : Name) (v : Held)
   put-room true r has = absurd (true≢false (sym has))
   put-room false r has = has
 
-  pub put-sound : ((q : Name) → has_room e q ≡ cond (same_name n q) false (has_room c q)) → length e.nodes + length e.room ≡ length c.nodes + length c.room → IsSound e
+  pub put-sound : ((q : Name) → has_room e q ≡ cond (same_name n q) false (has_room c q)) → length e.nodes + length e.room ≡ length c.nodes + length c.room → IsSoundCache e
   put-sound room count = record {
     once = oe;
     own = λ q h at. cond-some (same_name n q) v h (held_node c q) (λ x. name_of x.node ≡ q) (sym (is q) ∙ at) (λ s. named ∙ same_name-true n q s) (sound.own q h);
@@ -320,7 +320,7 @@ module _ (c e : Resident) (n : Name) (v : Held)
   }
 
 module _ (c e : Resident) (n : Name) (h0 : Held)
-    (sound : IsSound c) (at : held_node c n ≡ Some h0) (alone : h0.parent ≡ None)
+    (sound : IsSoundCache c) (at : held_node c n ≡ Some h0) (alone : h0.parent ≡ None)
     (is : (q : Name) → held_node e q ≡ cond (same_name n q) None (held_node c q)) (oe : Once e) where
   pub take-children : (m : Name) → children e m ≡ children c m
   take-children m =
@@ -336,7 +336,7 @@ module _ (c e : Resident) (n : Name) (h0 : Held)
   to-none true o none = refl
   to-none false o none = none
 
-  pub take-sound : e.room ≡ c.room → length e.nodes + 1 ≡ length c.nodes → IsSound e
+  pub take-sound : e.room ≡ c.room → length e.nodes + 1 ≡ length c.nodes → IsSoundCache e
   take-sound room count = record {
     once = oe;
     own = λ q h s. sound.own q h (take-some (same_name n q) (held_node c q) h (sym (is q) ∙ s));
@@ -368,9 +368,9 @@ kids-mapped f kids false (Some g) h s = ap kids_in (sym s)
 
 -- ---- a change that keeps the node's name, the parent and the children
 module _ (c e : Resident) (f : Held → Held) (t : Name → Bool)
-    (sound : IsSound c) (is : (q : Name) → held_node e q ≡ map_if (t q) f (held_node c q)) (oe : Once e)
+    (sound : IsSoundCache c) (is : (q : Name) → held_node e q ≡ map_if (t q) f (held_node c q)) (oe : Once e)
     (node : (h : Held) → name_of (f h).node ≡ name_of h.node) (kids : (h : Held) → (f h).kids ≡ h.kids) (same : (q : Name) → children e q ≡ children c q) where
-  pub flagged-sound : e.room ≡ c.room → length e.nodes ≡ length c.nodes → IsSound e
+  pub flagged-sound : e.room ≡ c.room → length e.nodes ≡ length c.nodes → IsSoundCache e
   flagged-sound room count = record {
     once = oe;
     own = λ q h s. own-mapped f node q (t q) (held_node c q) (held_node e q) h (is q) s (sound.own q);
@@ -428,12 +428,12 @@ children-all m f keep (e ∷ es) =
     ∙ sym (sum_by-cons (one m) e.1 (values_of es))
 
 -- ---- an empty place more
-module _ (c e : Resident) (n : Name) (sound : IsSound c) (absent : held_node c n ≡ None) (nodes : e.nodes ≡ c.nodes) where
+module _ (c e : Resident) (n : Name) (sound : IsSoundCache c) (absent : held_node c n ≡ None) (nodes : e.nodes ≡ c.nodes) where
   roomy-empty : (b : Bool) (q : Name) → same_name n q ≡ b → cond b true (has_room c q) ≡ true → held_node c q ≡ None
   roomy-empty true q s has = ap (held_node c) (sym (same_name-true n q s)) ∙ absent
   roomy-empty false q s has = sound.empty q has
 
-  pub roomy-sound : ((q : Name) → has_room e q ≡ cond (same_name n q) true (has_room c q)) → length c.nodes + length e.room < 2 ^ 32 → IsSound e
+  pub roomy-sound : ((q : Name) → has_room e q ≡ cond (same_name n q) true (has_room c q)) → length c.nodes + length e.room < 2 ^ 32 → IsSoundCache e
   roomy-sound room few = record {
     once = subst (λ (l : List (Name × Held)). IsDistinct same_name (keys_of l)) (sym nodes) sound.once;
     own = λ q h s. sound.own q h (ap (λ (l : List (Name × Held)). lookup (same_name q) l) (sym nodes) ∙ s);
@@ -451,8 +451,8 @@ rehash-name n x (Entry e) = refl
 rehash-name n x (Part p) = refl
 
 -- ---- empty places more, none of a resident name
-module _ (c e : Resident) (sound : IsSound c) (nodes : e.nodes ≡ c.nodes) where
-  pub roomier-sound : ((q : Name) → has_room e q ≡ true → held_node c q ≡ None) → length c.nodes + length e.room < 2 ^ 32 → IsSound e
+module _ (c e : Resident) (sound : IsSoundCache c) (nodes : e.nodes ≡ c.nodes) where
+  pub roomier-sound : ((q : Name) → has_room e q ≡ true → held_node c q ≡ None) → length c.nodes + length e.room < 2 ^ 32 → IsSoundCache e
   roomier-sound free few = record {
     once = subst (λ (l : List (Name × Held)). IsDistinct same_name (keys_of l)) (sym nodes) sound.once;
     own = λ q h s. sound.own q h (ap (λ (l : List (Name × Held)). lookup (same_name q) l) (sym nodes) ∙ s);
@@ -467,14 +467,14 @@ free-or true s (Some g) h f = f refl
 free-or false true (Some g) h f = absurd (true≢false (sym h))
 free-or false false (Some g) h f = absurd (true≢false (sym h))
 
-pub still-free : (c e : Resident) (sets : Name → Bool) → IsSound c → ((q : Name) → has_room e q ≡ (has_room c q || (sets q && not (is_some (held_node c q))))) → (q : Name) → has_room e q ≡ true → held_node c q ≡ None
+pub still-free : (c e : Resident) (sets : Name → Bool) → IsSoundCache c → ((q : Name) → has_room e q ≡ (has_room c q || (sets q && not (is_some (held_node c q))))) → (q : Name) → has_room e q ≡ true → held_node c q ≡ None
 still-free c e sets sound is q has = free-or (has_room c q) (sets q) (held_node c q) (sym (is q) ∙ has) (sound.empty q)
 
 -- ---- a change that keeps the parent and the children
 module _ (c e : Resident) (f : Held → Held) (t : Name → Bool)
-    (sound : IsSound c) (is : (q : Name) → held_node e q ≡ map_if (t q) f (held_node c q)) (oe : Once e)
+    (sound : IsSoundCache c) (is : (q : Name) → held_node e q ≡ map_if (t q) f (held_node c q)) (oe : Once e)
     (own : (q : Name) (h : Held) → held_node e q ≡ Some h → name_of h.node ≡ q) (kids : (h : Held) → (f h).kids ≡ h.kids) (same : (q : Name) → children e q ≡ children c q) where
-  pub rewritten-sound : e.room ≡ c.room → length e.nodes ≡ length c.nodes → IsSound e
+  pub rewritten-sound : e.room ≡ c.room → length e.nodes ≡ length c.nodes → IsSoundCache e
   rewritten-sound room count = record {
     once = oe;
     own = own;
@@ -491,12 +491,12 @@ own-renewed k n q true None h named s is own = absurd (is-none _ h refl is)
 own-renewed k n q true (Some g) h named s is own = ap (node_in n) (sym is) ∙ named ∙ same_name-true n q s
 own-renewed k n q false o h named s is own = own is
 
-pub renewed-own : (c e : Resident) (k : Node) (n : Name) → IsSound c → name_of k ≡ n → ((q : Name) → held_node e q ≡ map_if (same_name n q) (with_node k) (held_node c q))
+pub renewed-own : (c e : Resident) (k : Node) (n : Name) → IsSoundCache c → name_of k ≡ n → ((q : Name) → held_node e q ≡ map_if (same_name n q) (with_node k) (held_node c q))
     → (q : Name) (h : Held) → held_node e q ≡ Some h → name_of h.node ≡ q
 renewed-own c e k n sound named is q h at = own-renewed k n q (same_name n q) (held_node c q) h named refl (sym (is q) ∙ at) (sound.own q h)
 
 -- a resident name has no empty place
-pub no-place : (c : Resident) (n q : Name) (s : Bool) → IsSound c → is_some (held_node c n) ≡ true → same_name n q ≡ s → has_room c q ≡ (has_room c q && not s)
+pub no-place : (c : Resident) (n q : Name) (s : Bool) → IsSoundCache c → is_some (held_node c n) ≡ true → same_name n q ≡ s → has_room c q ≡ (has_room c q && not s)
 no-place c n q true sound there e = by (has_room c q) refl
   where
     by : (b : Bool) → has_room c q ≡ b → b ≡ (b && false)

@@ -10,7 +10,7 @@ use Rattle.iris_node.specs.declared.node.Node.{Node}
 use Rattle.iris_cache.specs.declared.held.Held.{Held}
 use Rattle.iris_cache.specs.declared.held.Stay.{Stay}
 use Rattle.iris_cache.specs.Held.{points, kid_less, kid_more, newcomer_node, stay_by, stay_of}
-use Rattle.iris_cache.specs.Resident.{Resident, held_node, children, map_if, resident_parent, IsSound}
+use Rattle.iris_cache.specs.Resident.{Resident, held_node, children, map_if, resident_parent, IsSoundCache}
 use Rattle.iris_cache.specs.Laws.{AlikeKeeps, AreAlike, EvictKeeps, InsertKeeps}
 use Rattle.iris_node.specs.Trees.{Shown, IsParent}
 use Rattle.iris_cache.specs.Pictures.{Pictures, IsSettled, IsHashOf, IsLike, Holds}
@@ -66,7 +66,7 @@ known-back false false None k f = tt
 known-back true false (Some g) k f = k
 known-back false false (Some g) k f = k
 
-module _ (shown : Shown) (c e : Resident) (n : Name) (h0 : Held) (pictures : Pictures shown c) (sound : IsSound c) (at : held_node c n ≡ Some h0) (free : stay_of h0 ≡ None) (settled : h0.settled ≡ true)
+module _ (shown : Shown) (c e : Resident) (n : Name) (h0 : Held) (pictures : Pictures shown c) (sound : IsSoundCache c) (at : held_node c n ≡ Some h0) (free : stay_of h0 ≡ None) (settled : h0.settled ≡ true)
     (is : (q : Name) → held_node e q ≡ map_if (points (resident_parent c n) q) kid_less (cond (same_name n q) None (held_node c q))) where
   back : (q : Name) (h : Held) → held_node e q ≡ Some h → Kept (same_name n q) (held_node c q) h
   back q h s = kept (points (resident_parent c n) q) (same_name n q) (held_node c q) h (sym (is q) ∙ s)

@@ -9,7 +9,7 @@ use Rattle.iris_cache.specs.Held.{with_parent, with_kids}
 use Rattle.iris_cache.specs.Drafted.{Drafted, drafted, is_set, IsDraft}
 use Rattle.iris_node.specs.Nodes.{name_of}
 use Rattle.iris_cache.specs.Applied.{bare, hung, node_written, node_of_change, spent, landed_node, landed_node_by}
-use Rattle.iris_cache.specs.Resident.{Resident, held_node, children, map_if, IsSound}
+use Rattle.iris_cache.specs.Resident.{Resident, held_node, children, map_if, IsSoundCache}
 
 -- to take from a parent twice is to do so once
 pub unhung-twice : (b a : Bool) (o : Option Held) → map_if a (with_parent None) (map_if b (with_parent None) o) ≡ map_if (b || a) (with_parent None) o
@@ -89,7 +89,7 @@ with-own-kids m None f = refl
 with-own-kids m (Some h) f = ap (λ (k : ℕ). Some (with_kids k h)) (f h refl)
 
 -- what is held, from what is held but for the count of children
-pub whole : (c : Resident) (q : Name) (y : Option Held) → IsSound c → bare c q ≡ option_map (with_kids 0) y → held_node c q ≡ option_map (with_kids (children c q)) y
+pub whole : (c : Resident) (q : Name) (y : Option Held) → IsSoundCache c → bare c q ≡ option_map (with_kids 0) y → held_node c q ≡ option_map (with_kids (children c q)) y
 whole c q y sound is = with-own-kids (children c q) (held_node c q) (sound.kids q) ∙ ap (option_map (with_kids (children c q))) is ∙ kids-again (children c q) y
 
 pub bare-none : (c : Resident) (q : Name) → bare c q ≡ None → held_node c q ≡ None

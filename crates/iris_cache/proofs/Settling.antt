@@ -19,7 +19,7 @@ use Rattle.iris_node.specs.Unfolded.{Unfolded}
 use Rattle.iris_node.specs.Local.{FolderAt, LeafAt, SplitAt, local_of, led_by, even_by, entry_local}
 use Rattle.iris_cache.specs.declared.held.Held.{Held}
 use Rattle.iris_cache.specs.Held.{points, settled_so}
-use Rattle.iris_cache.specs.Rehash.{relinked, resided, rebodied, reentered, rehashed, with_hash, whole_part, low_part, high_part}
+use Rattle.iris_cache.specs.Rehash.{relinked, resided, rebodied, reentered, rehashed, with_hash, top_part, low_part, high_part}
 use Rattle.iris_cache.specs.Resident.{Resident, held_node, map_if, resident_parent, parent_in}
 use Rattle.iris_cache.specs.Laws.{SetHashKeeps, AreFormed}
 use Rattle.iris_node.specs.Trees.{Shown, IsParent}
@@ -48,7 +48,7 @@ side-puts a n x (Below h) m y c = one-put a n x h (same_name a n) m y refl c.0 c
 
 body-puts : (n : Name) (x : Hash32) (id : FileId) (b : Body) (m : Name) (y : Hash32) → BodyHolds id (rebodied n x id b) m y → Put n x (BodyHolds id b) m y
 body-puts n x id (Dir top) m y c = link-puts n x top m y c
-body-puts n x id (File size counter versions) m y c = side-puts (whole_part id) n x versions m y c
+body-puts n x id (File size counter versions) m y c = side-puts (top_part id) n x versions m y c
 
 node-puts : (n : Name) (x : Hash32) (k : Node) (m : Name) (y : Hash32) → Holds (rehashed n x k) m y → Put n x (Holds k) m y
 node-puts n x (Entry e) m y (inl c) = put-in n x (LinkHolds e.left) (Holds (Entry e)) (λ k z h. inl h) m y (link-puts n x e.left m y c)
@@ -67,7 +67,7 @@ even-same b x (Below h) = refl
 
 entry-same : (n : Name) (x : Hash32) (e : EntryFields) (b : Body) → entry_local (reentered n x e) (rebodied n x e.id b) ≡ entry_local e b
 entry-same n x e (Dir top) = λ i. FolderAt e.id.0 e.name (led-same n x e.left i) (led-same n x e.right i) (led-same n x top i)
-entry-same n x e (File size counter versions) = λ i. LeafAt e.id.0 e.name (led-same n x e.left i) (led-same n x e.right i) size counter (even-same (same_name (whole_part e.id) n) x versions i)
+entry-same n x e (File size counter versions) = λ i. LeafAt e.id.0 e.name (led-same n x e.left i) (led-same n x e.right i) size counter (even-same (same_name (top_part e.id) n) x versions i)
 
 local-same : (n : Name) (x : Hash32) (k : Node) → local_of (rehashed n x k) ≡ local_of k
 local-same n x (Entry e) = entry-same n x e e.body

@@ -22,7 +22,7 @@ use Rattle.iris_cache.specs.Resident.{Resident, held_node}
 use Rattle.iris_cache.specs.Drafted.{Drafted, seen}
 use Rattle.iris_cache.specs.Laws.{AreFormed, HaveApart, IsApart, AreApart}
 use Rattle.iris_cache.specs.Pictures.{Drafts, IsHashOf, IsLike, IsSettled, Holds, LinkHolds, SideHolds, BodyHolds}
-use Rattle.iris_cache.specs.Rehash.{whole_part, low_part, high_part}
+use Rattle.iris_cache.specs.Rehash.{top_part, low_part, high_part}
 use Rattle.iris_cache.proofs.Children.{held-child, linked-name}
 
 -- two links to one entry hold one hash
@@ -143,10 +143,10 @@ side-one a (Fold v) m x y h k = absurd h
 side-one a (Below z) m x y h k = h.1 ∙ sym k.1
 
 -- a link leads to no part
-link-side : (l : Option Link) (f : FileId) (s : Side) (m : Name) (x y : Hash32) → LinkHolds l m x → SideHolds (whole_part f) s m y → ⊥
+link-side : (l : Option Link) (f : FileId) (s : Side) (m : Name) (x y : Hash32) → LinkHolds l m x → SideHolds (top_part f) s m y → ⊥
 link-side None f s m x y h k = h
 link-side (Some l) f (Fold v) m x y h k = k
-link-side (Some l) f (Below z) m x y h k = let e : name.Entry l.id ≡ whole_part f = sym h.0 ∙ k.0 in cc
+link-side (Some l) f (Below z) m x y h k = let e : name.Entry l.id ≡ top_part f = sym h.0 ∙ k.0 in cc
 
 module _ (m : Name) (x y : Hash32) where
   abbrev EntryHolds : EntryFields → Body → Hash32 → Type 0
@@ -174,7 +174,7 @@ module _ (m : Name) (x y : Hash32) where
   leaf-one less more e size counter v l r apart (inr (inl h)) (inr (inr k)) = absurd (link-side e.right e.id v m x y h k)
   leaf-one less more e size counter v l r apart (inr (inr h)) (inl k) = absurd (link-side e.left e.id v m y x k h)
   leaf-one less more e size counter v l r apart (inr (inr h)) (inr (inl k)) = absurd (link-side e.right e.id v m y x k h)
-  leaf-one less more e size counter v l r apart (inr (inr h)) (inr (inr k)) = side-one (whole_part e.id) v m x y h k
+  leaf-one less more e size counter v l r apart (inr (inr h)) (inr (inr k)) = side-one (top_part e.id) v m x y h k
 
   entry-one : (u : Unfolded) (e : EntryFields) (b : Body) → IsApart u → local u ≡ Some (entry_local e b) → EntryHolds e b x → EntryHolds e b y → x ≡ y
   entry-one (Folder id label less more inside) e (Dir top) apart is h k =
@@ -261,7 +261,7 @@ body-as : (i j : FileId) (a b : Body) → i ≡ j → ((m : Name) (x y : Hash32)
 body-as i j (Dir t) (Dir u) e f = link-as t u f
 body-as i j (Dir t) (File s c v) e f = tt
 body-as i j (File s c v) (Dir t) e f = tt
-body-as i j (File s c v) (File s2 c2 v2) e f = side-as (whole_part i) (whole_part j) v v2 (ap whole_part e) f
+body-as i j (File s c v) (File s2 c2 v2) e f = side-as (top_part i) (top_part j) v v2 (ap top_part e) f
 
 local-id : Local → ℕ
 local-id (FolderAt id label less more inside) = id

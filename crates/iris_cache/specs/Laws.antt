@@ -9,8 +9,8 @@ use Rattle.iris_node.specs.Unfolded.{Unfolded, Absent, Folder, Leaf, Even, Split
 use Rattle.iris_cache.specs.declared.held.Held.{Held}
 use Rattle.iris_cache.specs.Applied.{Lands, arrived_node}
 use Rattle.iris_cache.specs.Held.{points, kid_less, kid_more, moved_node, newcomer_node, settled_so, stay_of}
-use Rattle.iris_cache.specs.Rehash.{whole_part, with_hash}
-use Rattle.iris_cache.specs.Resident.{Resident, held_node, map_if, resident_parent, IsSound}
+use Rattle.iris_cache.specs.Rehash.{top_part, with_hash}
+use Rattle.iris_cache.specs.Resident.{Resident, held_node, map_if, resident_parent, IsSoundCache}
 use Rattle.iris_cache.specs.Drafted.{Drafted, drafted, known, seen}
 use Rattle.iris_node.specs.Trees.{Shown, IsTree, IsParent, IsNodeName, node_name}
 use Rattle.iris_cache.specs.Pictures.{Holds, IsHashOf, IsLike, Pictures, Detached, DraftsBeside, Drafts}
@@ -36,7 +36,7 @@ IsSide n (Stored version bytes) = ⊥
 -- links lead to entries, and sides to the parts of what they cover
 abbrev pub IsFormed : Unfolded → Type 0
 IsFormed (Folder id label less more inside) = IsLinked less × (IsLinked more × IsLinked inside)
-IsFormed (Leaf id label less more size counter versions) = IsLinked less × (IsLinked more × IsSide (whole_part (id_of id)) versions)
+IsFormed (Leaf id label less more size counter versions) = IsLinked less × (IsLinked more × IsSide (top_part (id_of id)) versions)
 IsFormed (Split file level index low high) = IsSide (name.Part (id_of file) (level - 1) (2 * index)) low × IsSide (name.Part (id_of file) (level - 1) (2 * index + 1)) high
 IsFormed Absent = Unit {0}
 IsFormed (Even version) = Unit {0}
@@ -76,7 +76,7 @@ ChildWasLive = (old new : Shown) (detached : Option Detached) (d : Drafted) (c :
 -- A cache goes on picturing a table where a settled node goes that nothing keeps.
 abbrev pub EvictKeeps : Type 0
 EvictKeeps = (t : Shown) (c e : Resident) (n : Name) (h : Held)
-    → Pictures t c → IsSound c → held_node c n ≡ Some h → stay_of h ≡ None → h.settled ≡ true
+    → Pictures t c → IsSoundCache c → held_node c n ≡ Some h → stay_of h ≡ None → h.settled ≡ true
     → ((q : Name) → held_node e q ≡ map_if (points (resident_parent c n) q) kid_less (if same_name n q then None else held_node c q)) → Pictures t e
 
 -- A cache goes on picturing a table where a node of it comes with its true hashes, and its parent, if it has one, is resident.

@@ -17,7 +17,7 @@ use Rattle.iris_node.specs.Unfolded.{Unfolded, hash, node_of}
 use Rattle.iris_node.specs.Local.{local, local_of}
 use Rattle.iris_cache.specs.declared.held.Held.{Held}
 use Rattle.iris_cache.specs.declared.draft.Change.{Change}
-use Rattle.iris_cache.specs.Rehash.{whole_part, low_part, high_part}
+use Rattle.iris_cache.specs.Rehash.{top_part, low_part, high_part}
 use Rattle.iris_cache.specs.Resident.{Resident, held_node, parent_in}
 use Rattle.iris_cache.specs.Drafted.{Drafted, drafted, known, seen}
 
@@ -34,7 +34,7 @@ SideHolds part (Below h) n x = (n ≡ part) × (x ≡ h)
 -- what an entry of this id says of its directory or file holds this hash of this name
 abbrev pub BodyHolds : FileId → Body → Name → Hash32 → Type 0
 BodyHolds id (Dir top) n x = LinkHolds top n x
-BodyHolds id (File size counter versions) n x = SideHolds (whole_part id) versions n x
+BodyHolds id (File size counter versions) n x = SideHolds (top_part id) versions n x
 
 -- a node holds this hash of this child
 abbrev pub Holds : Node → Name → Hash32 → Type 0

@@ -17,8 +17,8 @@ use Rattle.iris_node.specs.Rules.{most_level}
 use Rattle.iris_cache.specs.declared.held.Held.{Held}
 
 -- the part that covers all places of a file
-abbrev pub whole_part : FileId → names.Name
-whole_part file = name.Part file most_level 0
+abbrev pub top_part : FileId → names.Name
+top_part file = name.Part file most_level 0
 
 -- the parts that cover the two halves of a part
 abbrev pub low_part : PartFields → names.Name
@@ -40,7 +40,7 @@ resided here x (Below hash) = Below (if here then x else hash)
 -- what an entry says of its directory or file, with the hash x wherever it names n
 abbrev pub rebodied : names.Name → Hash32 → FileId → Body → Body
 rebodied n x id (Dir top) = Dir (relinked n x top)
-rebodied n x id (File size counter versions) = File size counter (resided (same_name (whole_part id) n) x versions)
+rebodied n x id (File size counter versions) = File size counter (resided (same_name (top_part id) n) x versions)
 
 -- an entry, with the hash x wherever it names n
 abbrev pub reentered : names.Name → Hash32 → EntryFields → EntryFields

@@ -43,7 +43,7 @@ abbrev pub Updates : Resident → Resident → Name → (Held → Held) → Type
 Updates old new n f = (q : Name) → held_node new q ≡ map_if (same_name n q) f (held_node old q)
 
 -- What every cache keeps.
-pub record IsSound (c : Resident) : Type 0 where
+pub record IsSoundCache (c : Resident) : Type 0 where
   -- each name is resident once
   pub once : IsDistinct same_name (keys_of c.nodes)
   -- each node is held under its own name
@@ -57,6 +57,6 @@ pub record IsSound (c : Resident) : Type 0 where
 
 -- What a cache keeps in its fields: a place for each name with room, and whether a node's parent may be missing.
 pub record IsKept (c : Resident) (astray : Bool) (free : ℕ) : Type 0 where
-  pub sound : IsSound c
+  pub sound : IsSoundCache c
   pub places : length c.room ≤ free
   pub homed : astray ≡ false → (n : Name) → held_node c n ≡ None → children c n ≡ 0

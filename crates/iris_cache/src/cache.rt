@@ -7,7 +7,7 @@ ghost use Rattle.iris_node.specs.Nodes.{name_of};
 ghost use Rattle.iris_cache.specs.declared.held.Held.{Held as HeldRecord};
 ghost use Rattle.iris_cache.specs.Held.{points, kid_more, kid_less, newcomer_node, stay_of};
 ghost use Rattle.iris_name.specs.declared.name.Name.{Name as SpecName};
-ghost use Rattle.iris_cache.specs.Resident.{held_node, has_room, children, resident_parent, map_if, IsSound};
+ghost use Rattle.iris_cache.specs.Resident.{held_node, has_room, children, resident_parent, map_if, IsSoundCache};
 
 use crate::held::{Held, Stay};
 use indexmap::{IndexMap, IndexSet};
@@ -52,7 +52,7 @@ impl Cache {
 
     /// What every cache keeps.
     pub fn sound(&self)
-        ensures { IsSound self.now }
+        ensures { IsSoundCache self.now }
     {
         let _ = &self.nodes;
     }

@@ -15,7 +15,7 @@ use Rattle.iris_cache.specs.declared.held.Short.{Short}
 use Rattle.iris_cache.specs.Resident.{Resident}
 use Rattle.iris_cache.specs.Drafted.{Drafted, seen}
 use Rattle.iris_treepaths.specs.declared.paths.Crumb.{Crumb}
-use Rattle.iris_dirtree.specs.Descents.{Stands, IsStop}
+use Rattle.iris_dirtree.specs.Descents.{StandsBelow, IsStop}
 use Rattle.iris_treepaths.specs.Nodes.{link_toward, IsLinkLack}
 use Rattle.iris_treepaths.specs.Paths.{plug, entry_name, IsAmong, met_along}
 use Rattle.iris_treepaths.specs.Rows.{Row, unfolded_rows}
@@ -46,7 +46,7 @@ top_beaten prio i x t e h y l m is = ap (λ j. beats prio j y.id) (sym e) ∙ su
 -- ---- the way down
 
 module _ (old new : Shown) (c : Resident) (home : Treap Row) (lasts : Name → Bool) (d : Drafted) (n : List ℕ) (t : Treap Row) where
-  pub split_start : (q : Name) (link : Option Link) → Stands old new c home lasts d q link t → Splitting old new c home lasts d n t [] [] link
+  pub split_start : (q : Name) (link : Option Link) → StandsBelow old new c home lasts d q link t → Splitting old new c home lasts d n t [] [] link
   split_start q link s = record { low_front = []; high_front = []; rest = t; q = q; low_is = refl; high_is = refl; low_crumbs = tt; high_crumbs = tt; stands = s; met = λ r h. h }
 
   pub split_more : (lows highs : List Crumb) (k : Link) (e : EntryFields) (b : Bool) → seen d c (name.Entry k.id) ≡ Some (node.Entry e) → (not (less_name e.name n) && not (less_name n e.name)) ≡ false → less_name e.name n ≡ b
@@ -103,7 +103,7 @@ module _ (old new : Shown) (c : Resident) (home : Treap Row) (lasts : Name → B
 
 -- why a plan stops there
 pub split_stop : (c : Resident) (d : Drafted) (n : List ℕ) (top : Option Link) (lows highs : List Crumb) (k : Link) (e : Short)
-    → ((old new : Shown) (home t : Treap Row) (lasts : Name → Bool) (q : Name) → Stands old new c home lasts d q top t → Splitting old new c home lasts d n t lows highs (Some k)) → IsLinkLack d c k e → IsStop (Splits d c n top) d c e
+    → ((old new : Shown) (home t : Treap Row) (lasts : Name → Bool) (q : Name) → StandsBelow old new c home lasts d q top t → Splitting old new c home lasts d n t lows highs (Some k)) → IsLinkLack d c k e → IsStop (Splits d c n top) d c e
 split_stop c d n top lows highs k e splits lack =
     link_stop c d (Splits d c n top) k e
     (λ old new met s m is missing.

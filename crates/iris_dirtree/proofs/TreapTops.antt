@@ -23,7 +23,7 @@ use Rattle.iris_cache.specs.Pictures.{Holds, BodyHolds, IsLike}
 use Rattle.iris_cache.specs.Needs.{IsWanted}
 use Rattle.iris_cache.proofs.Lacking.{unknown}
 use Rattle.iris_treepaths.specs.Crumbs.{Seated}
-use Rattle.iris_dirtree.specs.Descents.{IsWantedLink, WantsBelow, Stands, IsStop}
+use Rattle.iris_dirtree.specs.Descents.{IsWantedLink, WantsBelow, StandsBelow, IsStop}
 use Rattle.iris_dirtree.specs.Found.{entry_of_node, inside, body_inside}
 use Rattle.iris_treepaths.specs.Needs.{IsMetShort}
 use Rattle.iris_treepaths.specs.Nodes.{dir_top, body_top}
@@ -105,7 +105,7 @@ module _ (old new : Shown) (c : Resident) (d : Drafted) (see : Sees old new d c)
   top_wanted (Some l) h = h l refl
 
   pub stands_start : (key : List ℕ) (dir : FileId) (rows : List Row) (top : Option Link) (lasts : Name → Bool) → ((n : Name) → IsSome (seen d c n) → lasts n ≡ true) → HasRows new key dir rows → dir_top (seen d c (name.Entry dir)) ≡ Some top
-      → Stands old new c (treap (up key) rows) lasts d (name.Entry dir) top (treap (up key) rows)
+      → StandsBelow old new c (treap (up key) rows) lasts d (name.Entry dir) top (treap (up key) rows)
   stands_start key dir rows top lasts all has is =
       let t = treap (up key) rows in
       let o = holder (seen d c (name.Entry dir)) top is in

@@ -18,10 +18,10 @@ use Rattle.iris_cache.specs.Drafted.{Drafted, known, seen}
 use Rattle.iris_cache.specs.Pictures.{WasHash}
 use Rattle.iris_treepaths.specs.declared.paths.Crumb.{Crumb}
 use Rattle.iris_treepaths.specs.Crumbs.{IsCrumb}
-use Rattle.iris_dirtree.specs.Descents.{Stands, Walked, FoundRow, IsStop, Walks}
+use Rattle.iris_dirtree.specs.Descents.{StandsBelow, Walked, FoundRow, IsStop, Walks}
 use Rattle.iris_cache.specs.Needs.{IsWanted}
 use Rattle.iris_treepaths.specs.Nodes.{link_toward, IsLinkLack}
-use Rattle.iris_treepaths.specs.Paths.{Frame, plug, entry_name, above, Passes, IsAmong}
+use Rattle.iris_treepaths.specs.Paths.{Frame, plug, entry_name, above, PassesRow, IsAmong}
 use Rattle.iris_treepaths.specs.Rows.{Row, unfolded_rows}
 use Rattle.iris_treepaths.specs.Ways.{Any, is_row_before, has_name}
 use Rattle.iris_treepaths.proofs.Crumbs.{crumbs_more}
@@ -33,8 +33,8 @@ module _ (old new : Shown) (c : Resident) (home : Treap Row) (lasts : Name → B
   -- ---- one step down
 
   -- the links of a node that is seen lead to the treaps below it
-  pub stands_sides : (q : Name) (link : Option Link) (y : Row) (l m : Treap Row) (e : EntryFields) → Stands old new c home lasts d q link (Over y l m) → seen d c (entry_name y) ≡ Some (node.Entry e)
-      → Stands old new c home lasts d (entry_name y) e.left l × Stands old new c home lasts d (entry_name y) e.right m
+  pub stands_sides : (q : Name) (link : Option Link) (y : Row) (l m : Treap Row) (e : EntryFields) → StandsBelow old new c home lasts d q link (Over y l m) → seen d c (entry_name y) ≡ Some (node.Entry e)
+      → StandsBelow old new c home lasts d (entry_name y) e.left l × StandsBelow old new c home lasts d (entry_name y) e.right m
   stands_sides q link y l m e s at =
       let seat = s.seated.0 (node.Entry e) at in
       let like = like_row y (unfolded_rows l) (unfolded_rows m) e seat.like in
@@ -43,7 +43,7 @@ module _ (old new : Shown) (c : Resident) (home : Treap Row) (lasts : Name → B
         record { leads = record { led_is = like.right_is; hash = λ n h k. seat.hashes n h (inr (inl k)) }; wanted = w.1; below = s.below.2; seated = s.seated.3 },
       )
 
-  pub stands_toward : (q : Name) (link : Option Link) (y : Row) (l m : Treap Row) (e : EntryFields) (b : Bool) → Stands old new c home lasts d q link (Over y l m) → seen d c (entry_name y) ≡ Some (node.Entry e) → Stands old new c home lasts d (entry_name y) (link_toward b e) (cond b m l)
+  pub stands_toward : (q : Name) (link : Option Link) (y : Row) (l m : Treap Row) (e : EntryFields) (b : Bool) → StandsBelow old new c home lasts d q link (Over y l m) → seen d c (entry_name y) ≡ Some (node.Entry e) → StandsBelow old new c home lasts d (entry_name y) (link_toward b e) (cond b m l)
   stands_toward q link y l m e true s at = (stands_sides q link y l m e s at).1
   stands_toward q link y l m e false s at = (stands_sides q link y l m e s at).0
 
@@ -53,16 +53,16 @@ module _ (old new : Shown) (c : Resident) (home : Treap Row) (lasts : Name → B
     pub l : Treap Row
     pub m : Treap Row
     pub is : w ≡ Over y l m
-    pub stands : Stands old new c home lasts d q (Some k) (Over y l m)
+    pub stands : StandsBelow old new c home lasts d q (Some k) (Over y l m)
     pub at : seen d c (entry_name y) ≡ Some (node.Entry e)
     pub name_is : e.name ≡ y.name
     pub id_is : k.id ≡ id_of y.id
     pub reached : WasHash old c (entry_name y) k.hash
 
-  pub top_row : (q : Name) (k : Link) (w : Treap Row) (e : EntryFields) → Stands old new c home lasts d q (Some k) w → seen d c (name.Entry k.id) ≡ Some (node.Entry e) → TopRow q k w e
+  pub top_row : (q : Name) (k : Link) (w : Treap Row) (e : EntryFields) → StandsBelow old new c home lasts d q (Some k) w → seen d c (name.Entry k.id) ≡ Some (node.Entry e) → TopRow q k w e
   top_row q k w e s at =
       let top = leads_over w k s.leads.led_is in
-      let S : Treap Row → Type 0 = λ w. Stands old new c home lasts d q (Some k) w in
+      let S : Treap Row → Type 0 = λ w. StandsBelow old new c home lasts d q (Some k) w in
       let s2 = subst S top.is s in
       let at2 : seen d c (entry_name top.row) ≡ Some (node.Entry e) = ap (λ i. seen d c (name.Entry i)) (sym top.id_is) ∙ at in
       record {
@@ -89,7 +89,7 @@ module _ (old new : Shown) (c : Resident) (home : Treap Row) (lasts : Name → B
 
   -- ---- what is missing
 
-  pub stands_wanted : (q : Name) (k : Link) (w : Treap Row) (met : List Row) (n : Name) → n ≡ name.Entry k.id → known d c n ≡ None → Stands old new c home lasts d q (Some k) w
+  pub stands_wanted : (q : Name) (k : Link) (w : Treap Row) (met : List Row) (n : Name) → n ≡ name.Entry k.id → known d c n ≡ None → StandsBelow old new c home lasts d q (Some k) w
       → ((y : Row) (l m : Treap Row) → w ≡ Over y l m → IsAmong y met) → Any (λ (r : Row). n ≡ entry_name r) met × IsWanted old new c n (Hash k.hash)
   stands_wanted q k w met n e missing s among =
       let top = leads_over w k s.leads.led_is in
@@ -110,7 +110,7 @@ link_stop c d pictured k (Need m x) wants lack = (
 )
 
 module _ (old new : Shown) (c : Resident) (lasts : Name → Bool) (d : Drafted) (p : Name) (n : List ℕ) (t : Treap Row) where
-  abbrev pub walked_start : (link : Option Link) → Stands old new c t lasts d p link t → Walked old new c lasts d p n t [] link
+  abbrev pub walked_start : (link : Option Link) → StandsBelow old new c t lasts d p link t → Walked old new c lasts d p n t [] link
   walked_start link s = record { front = []; rest = t; is = refl; passed = tt; crumbs = tt; stands = s }
 
   -- the frame of the row to which the link leads
@@ -132,7 +132,7 @@ module _ (old new : Shown) (c : Resident) (lasts : Name → Bool) (d : Drafted) 
       let f = frame_of top.y top.l top.m b in
       let rest = cond b top.m top.l in
       let side = passes old new c t lasts d n q k w.rest e b top out less in
-      let S : Name → Type 0 = λ q. Stands old new c t lasts d q (link_toward b e) rest in
+      let S : Name → Type 0 = λ q. StandsBelow old new c t lasts d q (link_toward b e) rest in
       record {
         frame = f;
         id_is = top.id_is;
@@ -140,7 +140,7 @@ module _ (old new : Shown) (c : Resident) (lasts : Name → Bool) (d : Drafted) 
           front = w.front ++ f ∷ [];
           rest = rest;
           is = w.is ∙ ap (plug w.front) (top.is ∙ sym (frame_is top.y top.l top.m b)) ∙ sym (plug_more w.front f rest);
-          passed = each_more (Passes n) w.front f w.passed (sym side.1, side.0);
+          passed = each_more (PassesRow n) w.front f w.passed (sym side.1, side.0);
           crumbs = crumbs_more old c t lasts d w.front ks f (record { node = e; right = b; hash = k.hash }) w.crumbs (crumb_of old new c t lasts d q k w.rest e b top);
           stands = subst S (sym (above_end p w.front f)) (stands_toward old new c t lasts d q (Some k) top.y top.l top.m e b top.stands top.at);
         };
@@ -170,8 +170,8 @@ module _ (old new : Shown) (c : Resident) (lasts : Name → Bool) (d : Drafted) 
 
 -- why a plan stops on its way towards a name
 pub walk_stop : (c : Resident) (d : Drafted) (n : List ℕ) (meets : Treap Row → List Row) (top : Option Link) (ks : List Crumb) (k : Link) (e : Short) → ((y : Row) (l m : Treap Row) → IsAmong y (meets (Over y l m)))
-    → ((r : Row) (fs : List Frame) (t : Treap Row) → Each (Passes n) fs → IsAmong r (meets t) → IsAmong r (meets (plug fs t)))
-    → ((old new : Shown) (t : Treap Row) (lasts : Name → Bool) (p : Name) → Stands old new c t lasts d p top t → Walked old new c lasts d p n t ks (Some k)) → IsLinkLack d c k e → IsStop (Walks meets d c top) d c e
+    → ((r : Row) (fs : List Frame) (t : Treap Row) → Each (PassesRow n) fs → IsAmong r (meets t) → IsAmong r (meets (plug fs t)))
+    → ((old new : Shown) (t : Treap Row) (lasts : Name → Bool) (p : Name) → StandsBelow old new c t lasts d p top t → Walked old new c lasts d p n t ks (Some k)) → IsLinkLack d c k e → IsStop (Walks meets d c top) d c e
 walk_stop c d n meets top ks k e first plugged walked lack =
     link_stop c d (Walks meets d c top) k e
     (λ old new met s m is missing.

@@ -13,9 +13,9 @@ use Rattle.iris_cache.specs.declared.held.Short.TheVariants.{Need, NoMemory}
 use Rattle.iris_cache.specs.Resident.{Resident}
 use Rattle.iris_cache.specs.Drafted.{Drafted, known, seen}
 use Rattle.iris_treepaths.specs.declared.paths.Crumb.{Crumb}
-use Rattle.iris_treepaths.specs.Crumbs.{Seat, Seated, Leads, AreCrumbs}
+use Rattle.iris_treepaths.specs.Crumbs.{Seat, Seated, CrumbLeads, AreCrumbs}
 use Rattle.iris_cache.specs.Needs.{IsWanted}
-use Rattle.iris_treepaths.specs.Paths.{Frame, plug, entry_name, above, Passes}
+use Rattle.iris_treepaths.specs.Paths.{Frame, plug, entry_name, above, PassesRow}
 use Rattle.iris_treepaths.specs.Rows.{Row, unfolded_rows, row_entry}
 use Rattle.iris_treepaths.specs.Ways.{Any, has_name}
 
@@ -32,8 +32,8 @@ WantsBelow old new c d (Over y l m) =
     × WantsBelow old new c d l × WantsBelow old new c d m
 
 -- a link leads to a treap in its place below q
-pub record Stands (old new : Shown) (c : Resident) (home : Treap Row) (lasts : Name → Bool) (d : Drafted) (q : Name) (link : Option Link) (w : Treap Row) : Type 0 where
-  pub leads : Leads old c link w
+pub record StandsBelow (old new : Shown) (c : Resident) (home : Treap Row) (lasts : Name → Bool) (d : Drafted) (q : Name) (link : Option Link) (w : Treap Row) : Type 0 where
+  pub leads : CrumbLeads old c link w
   pub wanted : IsWantedLink old new c d link
   pub below : WantsBelow old new c d w
   pub seated : Seated old c home lasts d q w
@@ -43,9 +43,9 @@ pub record Walked (old new : Shown) (c : Resident) (lasts : Name → Bool) (d : 
   pub front : List Frame
   pub rest : Treap Row
   pub is : t ≡ plug front rest
-  pub passed : Each (Passes n) front
+  pub passed : Each (PassesRow n) front
   pub crumbs : AreCrumbs old c t lasts d front kept
-  pub stands : Stands old new c t lasts d (above p front) link rest
+  pub stands : StandsBelow old new c t lasts d (above p front) link rest
 
 -- The row of the name is found at the end of the way.
 pub record FoundRow (old new : Shown) (c : Resident) (lasts : Name → Bool) (d : Drafted) (p : Name) (n : List ℕ) (t : Treap Row) (kept : List Crumb) (e : EntryFields) : Type 0 where
@@ -54,13 +54,13 @@ pub record FoundRow (old new : Shown) (c : Resident) (lasts : Name → Bool) (d 
   pub less : Treap Row
   pub more : Treap Row
   pub is : t ≡ plug front (Over row less more)
-  pub passed : Each (Passes n) front
+  pub passed : Each (PassesRow n) front
   pub crumbs : AreCrumbs old c t lasts d front kept
   pub named : has_name n row ≡ true
   pub sees : seen d c (entry_name row) ≡ Some (node.Entry e)
   pub seat : Seat old c lasts d (above p front) (entry_name row) (row_entry row (unfolded_rows less) (unfolded_rows more)) (node.Entry e)
-  pub left : Stands old new c t lasts d (entry_name row) e.left less
-  pub right : Stands old new c t lasts d (entry_name row) e.right more
+  pub left : StandsBelow old new c t lasts d (entry_name row) e.left less
+  pub right : StandsBelow old new c t lasts d (entry_name row) e.right more
 
 -- a missing name is wanted in each two tables of which something is pictured, and is that of a row that is met
 abbrev pub IsStop : (Shown → Shown → List Row → Type 0) → Drafted → Resident → Short → Type 0
@@ -72,5 +72,5 @@ pub record Walks (meets : Treap Row → List Row) (d : Drafted) (c : Resident) (
   pub t : Treap Row
   pub lasts : Name → Bool
   pub p : Name
-  pub stands : Stands old new c t lasts d p link t
+  pub stands : StandsBelow old new c t lasts d p link t
   pub met_is : met ≡ meets t

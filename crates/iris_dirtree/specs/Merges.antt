@@ -7,8 +7,8 @@ use Rattle.iris_shape.specs.Treap.{Treap, merge, way}
 use Rattle.iris_cache.specs.Resident.{Resident}
 use Rattle.iris_cache.specs.Drafted.{Drafted}
 use Rattle.iris_treepaths.specs.declared.paths.Crumb.{Crumb}
-use Rattle.iris_treepaths.specs.Crumbs.{Seated, Leads, AreCrumbs}
-use Rattle.iris_dirtree.specs.Descents.{Stands}
+use Rattle.iris_treepaths.specs.Crumbs.{Seated, CrumbLeads, AreCrumbs}
+use Rattle.iris_dirtree.specs.Descents.{StandsBelow}
 use Rattle.iris_treepaths.specs.Paths.{Frame, plug, IsAmong}
 use Rattle.iris_treepaths.specs.Rows.{Row}
 
@@ -21,8 +21,8 @@ pub record Merging (old new : Shown) (c : Resident) (home : Treap Row) (lasts : 
   pub r : Name
   pub is : u ≡ plug front (merge up a b)
   pub crumbs : AreCrumbs old c home lasts d front kept
-  pub left : Stands old new c home lasts d q less a
-  pub right : Stands old new c home lasts d r more b
+  pub left : StandsBelow old new c home lasts d q less a
+  pub right : StandsBelow old new c home lasts d r more b
   pub met_less : (r : Row) → IsAmong r (way (λ _. true) a) → IsAmong r met
   pub met_more : (r : Row) → IsAmong r (way (λ _. false) b) → IsAmong r met
 
@@ -33,7 +33,7 @@ pub record IsMerged (old : Shown) (c : Resident) (home : Treap Row) (lasts : Nam
   pub q : Name
   pub is : u ≡ plug front rest
   pub crumbs : AreCrumbs old c home lasts d front kept
-  pub leads : Leads old c link rest
+  pub leads : CrumbLeads old c link rest
   pub seated : Seated old c home lasts d q rest
 
 -- a plan goes down two treaps that are to be merged, and meets these rows

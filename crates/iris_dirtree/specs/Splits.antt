@@ -12,7 +12,7 @@ use Rattle.iris_cache.specs.Resident.{Resident}
 use Rattle.iris_cache.specs.Drafted.{Drafted, seen}
 use Rattle.iris_treepaths.specs.declared.paths.Crumb.{Crumb}
 use Rattle.iris_treepaths.specs.Crumbs.{AreCrumbs}
-use Rattle.iris_dirtree.specs.Descents.{Stands, Walked}
+use Rattle.iris_dirtree.specs.Descents.{StandsBelow, Walked}
 use Rattle.iris_treepaths.specs.Paths.{Frame, plug, IsAmong, met_along}
 use Rattle.iris_treepaths.specs.Rows.{Row}
 use Rattle.iris_treepaths.specs.Ways.{is_row_before}
@@ -23,7 +23,7 @@ TopBelow prio i Empty = Unit {0}
 TopBelow prio i (Over y l m) = beats prio i.0 y.id ≡ true
 
 -- The way down towards a name has come to where the entry of an id is to stand.
-pub record Reached (prio : ℕ → ℕ) (i : FileId) (old new : Shown) (c : Resident) (lasts : Name → Bool) (d : Drafted) (p : Name) (n : List ℕ) (t : Treap Row) (kept : List Crumb) (link : Option Link) : Type 0 where
+pub record SplitReached (prio : ℕ → ℕ) (i : FileId) (old new : Shown) (c : Resident) (lasts : Name → Bool) (d : Drafted) (p : Name) (n : List ℕ) (t : Treap Row) (kept : List Crumb) (link : Option Link) : Type 0 where
   pub walked : Walked old new c lasts d p n t kept link
   pub above : Each (λ f. beats prio i.0 f.row.id ≡ false) walked.front
   pub below : TopBelow prio i walked.rest
@@ -38,7 +38,7 @@ pub record Splitting (old new : Shown) (c : Resident) (home : Treap Row) (lasts 
   pub high_is : high (is_row_before n) t ≡ plug high_front (high (is_row_before n) rest)
   pub low_crumbs : AreCrumbs old c home lasts d low_front lows
   pub high_crumbs : AreCrumbs old c home lasts d high_front highs
-  pub stands : Stands old new c home lasts d q link rest
+  pub stands : StandsBelow old new c home lasts d q link rest
   pub met : (r : Row) → IsAmong r (met_along n rest) → IsAmong r (met_along n t)
 
 -- The halves of a treap that a name splits are paths with nothing at their ends.
@@ -56,7 +56,7 @@ pub record Splits (d : Drafted) (c : Resident) (n : List ℕ) (link : Option Lin
   pub home : Treap Row
   pub lasts : Name → Bool
   pub q : Name
-  pub stands : Stands old new c home lasts d q link t
+  pub stands : StandsBelow old new c home lasts d q link t
   pub among : (r : Row) → IsAmong r (met_along n t) → IsAmong r met
 
 -- the names that are seen, and that of an entry that comes

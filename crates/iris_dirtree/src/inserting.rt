@@ -12,14 +12,14 @@ ghost use Rattle.iris_cache.specs.Pictures.{Drafts};
 ghost use Rattle.iris_treepaths.specs.Paths.{met_along};
 ghost use Rattle.iris_treepaths.specs.Counts.{IsEntryName};
 ghost use Rattle.iris_treepaths.specs.Crumbs.{AreNamed};
-ghost use Rattle.iris_dirtree.specs.Descents.{Stands, IsStop, Walks};
+ghost use Rattle.iris_dirtree.specs.Descents.{StandsBelow, IsStop, Walks};
 ghost use Rattle.iris_treepaths.specs.Rows.{Row, Rearranges, IsCountable, up};
 ghost use Rattle.iris_treepaths.specs.Ways.{is_row_before, along_name};
 ghost use Rattle.iris_treepaths.specs.Hands.{IsRowNode, HoldsTrue};
 ghost use Rattle.iris_treepaths.specs.Needs.{IsDirectory, ListedInHand, IsMetShort};
 ghost use Rattle.iris_treepaths.specs.Planted.{Planted};
 ghost use Rattle.iris_treepaths.specs.Nodes.{between, LinksTo, IsPut, OnlyEntries};
-ghost use Rattle.iris_dirtree.specs.Splits.{Reached, IsSplit, Splits};
+ghost use Rattle.iris_dirtree.specs.Splits.{SplitReached, IsSplit, Splits};
 
 use iris_treepaths::recount;
 use crate::finding::longest_way;
@@ -75,8 +75,8 @@ fn find_seat(
     id: FileId,
 ) -> Result<Way, Short>
     requires linked { IsLinkToNamed top }
-    ensures reached { IfOk result (λ r. (old new : Shown) → (t : Treap Row) → (lasts : SpecName → Bool) → (p : SpecName) → Stands old new cache.now t lasts draft.now p top t
-        → Reached (priority keys.now.order) id old new cache.now lasts draft.now p name.now t r.path.items r.at) }
+    ensures reached { IfOk result (λ r. (old new : Shown) → (t : Treap Row) → (lasts : SpecName → Bool) → (p : SpecName) → StandsBelow old new cache.now t lasts draft.now p top t
+        → SplitReached (priority keys.now.order) id old new cache.now lasts draft.now p name.now t r.path.items r.at) }
     ensures named { IfOk result (λ r. AreNamed r.path.items) }
     ensures linked { IfOk result (λ r. IsLinkToNamed r.at) }
     ensures short { IfErr result (IsStop (Walks (met_along name.now) draft.now cache.now top) draft.now cache.now) }
@@ -111,7 +111,7 @@ fn split(
     name: &Text,
 ) -> Result<Halves, Short>
     requires linked { IsLinkToNamed top }
-    ensures split { IfOk result (λ h. (old new : Shown) → (home t : Treap Row) → (lasts : SpecName → Bool) → (q : SpecName) → Stands old new cache.now home lasts draft.now q top t
+    ensures split { IfOk result (λ h. (old new : Shown) → (home t : Treap Row) → (lasts : SpecName → Bool) → (q : SpecName) → StandsBelow old new cache.now home lasts draft.now q top t
         → IsSplit old cache.now home lasts draft.now name.now t h.low.items h.high.items) }
     ensures low { IfOk result (λ h. AreNamed h.low.items) }
     ensures high { IfOk result (λ h. AreNamed h.high.items) }

@@ -12,7 +12,7 @@ ghost use Rattle.iris_cache.specs.Drafted.{drafted, seen};
 ghost use Rattle.iris_treepaths.specs.Paths.{met_near};
 ghost use Rattle.iris_treepaths.specs.Counts.{IsEntryName};
 ghost use Rattle.iris_treepaths.specs.Crumbs.{AreNamed};
-ghost use Rattle.iris_dirtree.specs.Descents.{Stands, FoundRow, IsStop, Walks};
+ghost use Rattle.iris_dirtree.specs.Descents.{StandsBelow, FoundRow, IsStop, Walks};
 ghost use Rattle.iris_treepaths.specs.Hands.{Holding, HoldsTrue, IsRowNode};
 ghost use Rattle.iris_dirtree.specs.Merges.{Merging, IsMerged, Merges};
 ghost use Rattle.iris_treepaths.specs.Needs.{IsDirectory, IsMetShort, Listed};
@@ -56,7 +56,7 @@ fn find_row(
     name: &Text,
 ) -> Result<Found, Short>
     requires { IsLinkToNamed top }
-    ensures found { IfOk result (λ r. (old new : Shown) → (t : Treap Row) → (lasts : SpecName → Bool) → (p : SpecName) → Stands old new cache.now t lasts draft.now p top t
+    ensures found { IfOk result (λ r. (old new : Shown) → (t : Treap Row) → (lasts : SpecName → Bool) → (p : SpecName) → StandsBelow old new cache.now t lasts draft.now p top t
         → FoundRow old new cache.now lasts draft.now p name.now t r.path.items r.row) }
     ensures named { IfOk result (λ r. AreNamed r.path.items) }
     ensures short { IfErr result (IsStop (Walks (met_near name.now) draft.now cache.now top) draft.now cache.now) }

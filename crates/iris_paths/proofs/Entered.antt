@@ -11,7 +11,7 @@ use Rattle.iris_node.specs.declared.node.Node.{Node}
 use Rattle.iris_node.specs.declared.node.Node.TheVariants as node
 use Rattle.iris_node.specs.Nodes.{name_of}
 use Rattle.iris_node.specs.Trees.{Shown}
-use Rattle.iris_cache.specs.Resident.{Resident, IsSound}
+use Rattle.iris_cache.specs.Resident.{Resident, IsSoundCache}
 use Rattle.iris_cache.specs.Drafted.{Drafted, seen, IsDraft}
 use Rattle.iris_plain.specs.declared.checks.Seen.{Seen}
 use Rattle.iris_plain.specs.declared.checks.Seen.TheVariants.{AFile}
@@ -38,12 +38,12 @@ file_node : (id : FileId) (n : Node) → name_of n ≡ name.Entry id → (IsDirN
 file_node id (node.Entry e) own closed = file_body e.body closed
 file_node id (node.Part p) own closed = cc
 
-file_option : (d : Drafted) (c : Resident) (id : FileId) (o : Option Node) → IsDraft d → IsSound c → IsInSight d c id → seen d c (name.Entry id) ≡ o → (IsDirectory d c id → ⊥) → (size : ℕ) × (standing_seen o ≡ AFile size)
+file_option : (d : Drafted) (c : Resident) (id : FileId) (o : Option Node) → IsDraft d → IsSoundCache c → IsInSight d c id → seen d c (name.Entry id) ≡ o → (IsDirectory d c id → ⊥) → (size : ℕ) × (standing_seen o ≡ AFile size)
 file_option d c id None ds cs sight e closed = let far : id.0 < 2 = none_far d c id sight e in absurd (closed (λ le. absurd (omega arith)))
 file_option d c id (Some n) ds cs sight e closed = file_node id n (seen_own d c (name.Entry id) n ds cs e) (λ k. closed (λ le. subst IsDirNode (sym e) k))
 
 -- an entry in sight that is no directory's is a file's
-pub file_seen : (d : Drafted) (c : Resident) (id : FileId) → IsDraft d → IsSound c → IsInSight d c id → (IsDirectory d c id → ⊥) → (size : ℕ) × (standing_seen (seen d c (name.Entry id)) ≡ AFile size)
+pub file_seen : (d : Drafted) (c : Resident) (id : FileId) → IsDraft d → IsSoundCache c → IsInSight d c id → (IsDirectory d c id → ⊥) → (size : ℕ) × (standing_seen (seen d c (name.Entry id)) ≡ AFile size)
 file_seen d c id ds cs sight closed = file_option d c id (seen d c (name.Entry id)) ds cs sight refl closed
 
 pub enters : (d : Drafted) (c : Resident) (names : List (List ℕ)) (id parent : FileId) → Follows d c names (At id parent) → IsDirectory d c id → IsEntered d c names (In id)
@@ -67,7 +67,7 @@ enters d c names id parent follows dir = (
 pub shut : (d : Drafted) (c : Resident) (names : List (List ℕ)) (r : Found) (e : PlainError) → Follows d c names r → AreInSight d c r → no_directory (met_seen d c r) ≡ Some e → IsEntered d c names (Not e)
 shut d c names r e follows sight check = λ key met old new pic. ap no_directory (meets_so d c names r (met_seen d c r) follows sight refl key met old new pic) ∙ check
 
-pub shut_file : (d : Drafted) (c : Resident) (names : List (List ℕ)) (id parent : FileId) → Follows d c names (At id parent) → AreInSight d c (At id parent) → IsDraft d → IsSound c → (IsDirectory d c id → ⊥) → IsEntered d c names (Not NotDir)
+pub shut_file : (d : Drafted) (c : Resident) (names : List (List ℕ)) (id parent : FileId) → Follows d c names (At id parent) → AreInSight d c (At id parent) → IsDraft d → IsSoundCache c → (IsDirectory d c id → ⊥) → IsEntered d c names (Not NotDir)
 shut_file d c names id parent follows sight ds cs closed =
     let f = file_seen d c id ds cs sight.0 closed in
     shut d c names (At id parent) NotDir follows sight (ap no_directory f.1)

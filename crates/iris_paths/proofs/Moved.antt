@@ -20,7 +20,7 @@ use Rattle.iris_shape.specs.Treap.{rows_with, rows_without, treap}
 use Rattle.iris_cache.specs.declared.held.Short.{Short}
 use Rattle.iris_cache.specs.declared.held.Short.TheVariants.{Need, NoMemory}
 use Rattle.iris_cache.specs.declared.draft.Change.{Change}
-use Rattle.iris_cache.specs.Resident.{Resident, held_node, IsSound}
+use Rattle.iris_cache.specs.Resident.{Resident, held_node, IsSoundCache}
 use Rattle.iris_cache.specs.Drafted.{Drafted, drafted, seen, IsDraft}
 use Rattle.iris_cache.specs.Pictures.{Drafts}
 use Rattle.iris_plain.specs.declared.checks.Seen.{Seen}
@@ -57,14 +57,14 @@ there_resolved (AFile size) h = refl
 there_resolved Nothing h = cc
 there_resolved AFileBefore h = cc
 
-seen_resolved : (d : Drafted) (c : Resident) (id : FileId) (o : Option Node) → IsDraft d → IsSound c → seen d c (name.Entry id) ≡ o → unresolved (standing_seen o) ≡ None
+seen_resolved : (d : Drafted) (c : Resident) (id : FileId) (o : Option Node) → IsDraft d → IsSoundCache c → seen d c (name.Entry id) ≡ o → unresolved (standing_seen o) ≡ None
 seen_resolved d c id None ds cs e = refl
 seen_resolved d c id (Some n) ds cs e = there_resolved (standing_seen (Some n)) (node_there id n (seen_own d c (name.Entry id) n ds cs e))
 
 same_parent : (a b p q : FileId) → At a p ≡ At b q → p ≡ q
 same_parent a b p q e = cc
 
-pub source_in : (d : Drafted) (c : Resident) (from to : List (List ℕ)) (id dir : FileId) → Follows d c from (At id dir) → AreInSight d c (At id dir) → IsDraft d → IsSound c → 0 < length from → is_front from to ≡ false → IsSource d c from to (In dir)
+pub source_in : (d : Drafted) (c : Resident) (from to : List (List ℕ)) (id dir : FileId) → Follows d c from (At id dir) → AreInSight d c (At id dir) → IsDraft d → IsSoundCache c → 0 < length from → is_front from to ≡ false → IsSource d c from to (In dir)
 source_in d c from to id dir follows sight ds cs some front = (
   sight.1,
   some,
@@ -89,7 +89,7 @@ source_not d c from to r e follows sight some check = λ key met old new pic res
 into_self : (s : Seen) (front : Bool) (rest : Option PlainError) → unresolved s ≡ None → front ≡ true → move_checks false s front rest ≡ Some IntoSelf
 into_self s front rest e f = ap (λ o. then_error o (then_error (error_if front IntoSelf) rest)) e ∙ ap (λ b. then_error (error_if b IntoSelf) rest) f
 
-pub source_below : (d : Drafted) (c : Resident) (from to : List (List ℕ)) (id dir : FileId) → Follows d c from (At id dir) → AreInSight d c (At id dir) → IsDraft d → IsSound c → 0 < length from → is_front from to ≡ true → IsSource d c from to (Not IntoSelf)
+pub source_below : (d : Drafted) (c : Resident) (from to : List (List ℕ)) (id dir : FileId) → Follows d c from (At id dir) → AreInSight d c (At id dir) → IsDraft d → IsSoundCache c → 0 < length from → is_front from to ≡ true → IsSource d c from to (Not IntoSelf)
 source_below d c from to id dir follows sight ds cs some front = λ key met old new pic rest.
     let s = met_seen d c (At id dir) in
     seen_move met from s (is_front from to) rest some (meets_so d c from (At id dir) s follows sight refl key met old new pic)

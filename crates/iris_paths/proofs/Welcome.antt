@@ -14,7 +14,7 @@ use Rattle.iris_node.specs.Trees.{Shown}
 use Rattle.iris_node.specs.Unfolded.{id_of}
 use Rattle.iris_cache.specs.declared.held.Short.{Short}
 use Rattle.iris_cache.specs.declared.held.Short.TheVariants.{Need, NoMemory}
-use Rattle.iris_cache.specs.Resident.{Resident, IsSound}
+use Rattle.iris_cache.specs.Resident.{Resident, IsSoundCache}
 use Rattle.iris_cache.specs.Drafted.{Drafted, seen, IsDraft}
 use Rattle.iris_plain.specs.declared.checks.Seen.{Seen}
 use Rattle.iris_plain.specs.declared.checks.Seen.TheVariants.{ADirectory, AFile, Nothing, AFileBefore}
@@ -138,7 +138,7 @@ module _ (d : Drafted) (c : Resident) (names : List (List ℕ)) (dir : FileId) (
   )
 
   -- where a row has the name, it exists
-  pub full : (id : FileId) → IsDraft d → IsSound c → IsSome (seen d c (name.Entry id)) → ((key : List ℕ) (old new : Shown) (rows : List Row) → Listed key dir d c old new rows → IsNamed rows (last names) (Some id.0)) → IsDestination d c names (Not Exists)
+  pub full : (id : FileId) → IsDraft d → IsSoundCache c → IsSome (seen d c (name.Entry id)) → ((key : List ℕ) (old new : Shown) (rows : List Row) → Listed key dir d c old new rows → IsNamed rows (last names) (Some id.0)) → IsDestination d c names (Not Exists)
   full id ds cs there named key met old new pic =
       let at = entered.1 key met old new pic in
       let f = pic.meets names in

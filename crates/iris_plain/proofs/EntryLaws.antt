@@ -11,7 +11,7 @@ use Rattle.iris_plain.specs.Entries.{kind_at}
 use Rattle.iris_plain.specs.declared.files.Entry.{Entry}
 use Rattle.iris_plain.specs.declared.files.Kind.{Kind}
 use Rattle.iris_plain.proofs.RouteLaws.{is_tells, own, under_join, rest_join, under_split, path_tail}
-use Rattle.iris_plain.specs.Steps.{has_name}
+use Rattle.iris_plain.specs.Steps.{has_entry_named}
 use Rattle.std.specs.Str.{bytes_eq}
 
 abbrev pub Path : Type 0
@@ -185,7 +185,7 @@ names_more es e names m = ap is_some (look_append es (e ∷ []) (names ++ m ∷ 
 
 -- one more entry that is no child leaves the names
 pub names_skip : (es : List Entry) (i : ℕ) (e : Entry) (names : Path) → e ≡ get_or es i e → i < length es → ((n : List ℕ) → is_path e.path (names ++ n ∷ []) ≡ false)
-    → has_name (kind_at (take (i + 1) es)) names ≡ has_name (kind_at (take i es)) names
+    → has_entry_named (kind_at (take (i + 1) es)) names ≡ has_entry_named (kind_at (take i es)) names
 names_skip es i e names at h f = λ j m. (ap (λ xs. is_some (kind_at xs (names ++ m ∷ []))) (take_more es i e h ∙ ap (λ x. take i es ++ x ∷ []) (sym at)) ∙ names_more (take i es) e names m
     ∙ ap (λ b. is_some (kind_at (take i es) (names ++ m ∷ [])) || b) (f m) ∙ or_none (is_some (kind_at (take i es) (names ++ m ∷ [])))) j where
       or_none : (b : Bool) → (b || false) ≡ b
@@ -194,7 +194,7 @@ names_skip es i e names at h f = λ j m. (ap (λ xs. is_some (kind_at xs (names 
 
 -- one more child adds its name
 pub names_push : (es : List Entry) (i : ℕ) (e : Entry) (names : Path) (n : List ℕ) → e ≡ get_or es i e → i < length es → e.path ≡ names ++ n ∷ []
-    → has_name (kind_at (take (i + 1) es)) names ≡ (λ m. has_name (kind_at (take i es)) names m || bytes_eq m n)
+    → has_entry_named (kind_at (take (i + 1) es)) names ≡ (λ m. has_entry_named (kind_at (take i es)) names m || bytes_eq m n)
 names_push es i e names n at h p = λ j m. (ap (λ xs. is_some (kind_at xs (names ++ m ∷ []))) (take_more es i e h ∙ ap (λ x. take i es ++ x ∷ []) (sym at)) ∙ names_more (take i es) e names m
     ∙ ap (λ b. is_some (kind_at (take i es) (names ++ m ∷ [])) || b) (ap (λ k. is_path k (names ++ m ∷ [])) p ∙ path_tail names n m)) j
 

@@ -9,7 +9,7 @@ use Rattle.iris_plain.specs.Routes.{parent, is_top}
 use Rattle.iris_plain.specs.Checks.{on_names, is_full}
 use Rattle.iris_plain.specs.Files.{Files, PlainState}
 use Rattle.iris_plain.specs.Steps.{Judged, OnNames, by_names, aged}
-use Rattle.iris_plain.specs.Entries.{Listed, kind_at, state_of_list}
+use Rattle.iris_plain.specs.Entries.{ListedEntries, kind_at, state_of_list}
 use Rattle.iris_plain.specs.declared.files.Entry.{Entry}
 
 abbrev pub Path : Type 0
@@ -32,7 +32,7 @@ module _ (o : Option Path) (names : Path) (is : o ≡ Some names) (checks : Path
   next_ok p q change h e = e ∙ sym (ap (λ o. by_names p o change) is) ∙ sym (ap (λ v. cond (is_none v) (by_names p o change) p) (ap (λ o. on_names o checks) is ∙ h))
 
 -- the list after a change, at the next age
-pub same_state : (p : Listed) (inside es : List Entry) (age : ℕ) (f : Files → Files) → inside ≡ p.entries → age ≡ p.age → ((q : Path) → kind_at es q ≡ f (kind_at inside) q)
+pub same_state : (p : ListedEntries) (inside es : List Entry) (age : ℕ) (f : Files → Files) → inside ≡ p.entries → age ≡ p.age → ((q : Path) → kind_at es q ≡ f (kind_at inside) q)
     → state_of_list (record { entries = es; age = age + 1 }) ≡ aged f (state_of_list p)
 same_state p inside es age f i a h = let g : (q : Path) → kind_at es q ≡ f (kind_at p.entries) q = λ q. h q ∙ ap (λ xs. f (kind_at xs) q) i in λ j. record { files = λ q. g q j; age = a j + 1 }
 

@@ -6,7 +6,7 @@ use Rattle.iris_plain.specs.declared.files.Kind.{Kind}
 use Rattle.iris_plain.specs.declared.files.Entry.{Entry}
 
 -- the paths in the list, and the age
-pub record Listed : Type 0 where
+pub record ListedEntries : Type 0 where
   pub entries : List Entry
   pub age : ℕ
 
@@ -16,5 +16,5 @@ kind_at [] q = None
 kind_at (e ∷ es) q = if is_path e.path q then Some e.kind else kind_at es q
 
 -- the plain state that the list stands for
-abbrev pub state_of_list : Listed → PlainState
+abbrev pub state_of_list : ListedEntries → PlainState
 state_of_list p = record { files = kind_at p.entries; age = p.age }

@@ -52,8 +52,8 @@ bytes_of (Some Dir) = []
 bytes_of (Some (Bytes bytes)) = bytes
 
 -- a directory has this name
-abbrev pub has_name : Files → List (List ℕ) → List ℕ → Bool
-has_name files names n = is_some (files (names ++ n ∷ []))
+abbrev pub has_entry_named : Files → List (List ℕ) → List ℕ → Bool
+has_entry_named files names n = is_some (files (names ++ n ∷ []))
 
 -- the reply is right by the names of a path
 abbrev pub OnNames : Option (List (List ℕ)) → (List (List ℕ) → Type 0) → Type 0
@@ -68,7 +68,7 @@ Accepted files (Write path offset bytes) reply = reply ≡ Done
 Accepted files (Read path offset count) reply = OnNames (names_of path) (λ names. reply ≡ BytesAre (take count (drop offset (bytes_of (files names)))))
 Accepted files (Resize path size) reply = reply ≡ Done
 Accepted files (Stat path) reply = OnNames (names_of path) (λ names. reply ≡ StatIs (is_directory_seen (seen_at files names)) (size_of (seen_at files names)))
-Accepted files (ListNames path after) reply = OnNames (names_of path) (λ names. (page : List (List ℕ)) × ((reply ≡ Names page) × IsPage (has_name files names) 64 after page))
+Accepted files (ListNames path after) reply = OnNames (names_of path) (λ names. (page : List (List ℕ)) × ((reply ≡ Names page) × IsPage (has_entry_named files names) 64 after page))
 Accepted files (Rename from to) reply = reply ≡ Done
 Accepted files (Remove path) reply = reply ≡ Done
 Accepted files Sync reply = ⊥

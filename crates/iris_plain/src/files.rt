@@ -4,7 +4,7 @@ ghost use Rattle.std.specs.Prelude.{◌≡◌, ◌||◌, ◌+◌, ◌<◌, ◌^�
 ghost use Rattle.std.specs.Str.{bytes_eq};
 ghost use Rattle.iris_plain.specs.Routes.{is_path, is_at_or_under, is_front, rest, is_name_before};
 ghost use Rattle.iris_plain.specs.Pages.{NoneLater, IsNext, IsPage};
-ghost use Rattle.iris_plain.specs.Steps.{has_name};
+ghost use Rattle.iris_plain.specs.Steps.{has_entry_named};
 ghost use Rattle.iris_plain.specs.Entries.{kind_at};
 ghost use Rattle.iris_plain.specs.Files.{seen_kind, seen_at, set, cleared, shifted, bytes_changed, wrote, resized_bytes, on_bytes};
 
@@ -223,7 +223,7 @@ fn child_name<'a>(entry: &'a Entry, names: &[Text]) -> Option<&'a Text>
 
 /// The least name of a directory that is greater than another.
 pub fn next_name<'a>(entries: &'a [Entry], names: &[Text], after: &Text) -> Option<&'a Text>
-    ensures { MatchOption result (NoneLater (has_name (kind_at entries.now) names.now) after.now) (λ name. IsNext (has_name (kind_at entries.now) names.now) after.now name.now) }
+    ensures { MatchOption result (NoneLater (has_entry_named (kind_at entries.now) names.now) after.now) (λ name. IsNext (has_entry_named (kind_at entries.now) names.now) after.now name.now) }
 {
     let mut best: Option<&'a Text> = None;
     for entry in entries {
@@ -255,7 +255,7 @@ pub fn page(
     names: &[Text],
     after: &Text,
 ) -> Result<Texts, NoMemory>
-    ensures { IfOk result (λ page. IsPage (has_name (kind_at entries.now) names.now) 64 after.now page) }
+    ensures { IfOk result (λ page. IsPage (has_entry_named (kind_at entries.now) names.now) 64 after.now page) }
 {
     let mut page = Texts::new(alloc);
     let mut last = after;

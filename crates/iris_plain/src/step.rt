@@ -5,7 +5,7 @@ ghost use Rattle.iris_name.specs.Paths.{names_of};
 ghost use Rattle.iris_plain.specs.Routes.{is_top, is_front, parent};
 ghost use Rattle.iris_plain.specs.Checks.{on_names, no_place, write_checks, read_checks, resize_checks, move_checks, remove_checks, unresolved, then_error, error_if, is_file, is_directory_seen, size_of, is_full};
 ghost use Rattle.iris_plain.specs.Files.{fresh_state, seen_at, set, cleared, shifted, bytes_changed, wrote, resized_bytes};
-ghost use Rattle.iris_plain.specs.Steps.{IsPlainRequest, PlainReplies, plain_step, Judged, OnNames, by_names, aged, bytes_of, has_name};
+ghost use Rattle.iris_plain.specs.Steps.{IsPlainRequest, PlainReplies, plain_step, Judged, OnNames, by_names, aged, bytes_of, has_entry_named};
 ghost use Rattle.iris_plain.specs.Entries.{kind_at, state_of_list};
 ghost use Rattle.iris_name.specs.declared.request.Reply.TheVariants.{Done, Bytes as BytesAre, Names, Stat as StatIs};
 ghost use Rattle.iris_name.specs.declared.request.PlainError.TheVariants.{NotDir};
@@ -31,9 +31,9 @@ pub struct Plain {
 }
 
 impl Model for Plain {
-    ghost use Rattle.iris_plain.specs.Entries.{Listed};
+    ghost use Rattle.iris_plain.specs.Entries.{ListedEntries};
 
-    ghost Value = { Listed };
+    ghost Value = { ListedEntries };
 
     ghost view = { λ a. record { entries = a.entries.items; age = a.age } };
 }
@@ -213,7 +213,7 @@ impl Plain {
     // A page of the names of the directory at the path of a text.
     fn list(&self, alloc: Global, path: &Text, after: &Text) -> Result<Reply, NoMemory>
         ensures { IfOk result (λ reply. Judged (on_names (names_of path.now) (λ names. then_error (unresolved (seen_at (kind_at self.now.entries) names)) (error_if (is_file (seen_at (kind_at self.now.entries) names)) NotDir)))
-            (OnNames (names_of path.now) (λ names. (page : List (List ℕ)) × ((reply ≡ Names page) × IsPage (has_name (kind_at self.now.entries) names) 64 after.now page))) reply) }
+            (OnNames (names_of path.now) (λ names. (page : List (List ℕ)) × ((reply ≡ Names page) × IsPage (has_entry_named (kind_at self.now.entries) names) 64 after.now page))) reply) }
     {
         let Some(path) = read_path(alloc, path)? else {
             return Ok(Reply::Plain(PlainError::BadPath));

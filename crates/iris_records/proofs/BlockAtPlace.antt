@@ -14,7 +14,7 @@ use Rattle.iris_records.specs.declared.challenge.Met.TheVariants.{Block, Past}
 use Rattle.iris_rows.specs.declared.item.Item.{Item}
 use Rattle.iris_rows.specs.Items.{kept_file, IsForest, table_over}
 use Rattle.iris_rows.specs.declared.places.Place.{Place}
-use Rattle.iris_rows.specs.Places.{Kept, IsKept, file_of, version_at, place_version}
+use Rattle.iris_rows.specs.Places.{StoredPlaces, ArePlacesKept, file_of, version_at, place_version}
 use Rattle.iris_rows.specs.Rows.{File}
 use Rattle.iris_records.specs.Strides.{own_file, files_of, blocks_of_all, WalkMeets}
 use Rattle.iris_records.proofs.WalkOverFiles.{blocks_joined, walk_is, file_stands}
@@ -63,7 +63,7 @@ step_inside item rest left r e h = subst (λ z. WalkMeets (own_file item.id.0 (k
 
 module _ (item : Item) (rest : List Item) (places : List Place) (left : ℕ) where
   -- past a file
-  pub step_past : (k : Kept) (r : Met) → item.file ≡ Some k → IsKept k → places ≡ k.places → length places ≤ left
+  pub step_past : (k : StoredPlaces) (r : Met) → item.file ≡ Some k → ArePlacesKept k → places ≡ k.places → length places ≤ left
       → WalkMeets (files_of rest) (left - length places) r → WalkMeets (files_of (item ∷ rest)) left r
   step_past k r e kept p h m =
       let n : length (blocks_of_all ((item.id.0, file_of k) ∷ [])) ≡ length places = own_length item.id.0 (file_of k) ∙ sym (ap length p ∙ kept.places) in
@@ -71,7 +71,7 @@ module _ (item : Item) (rest : List Item) (places : List Place) (left : ℕ) whe
       (meets_right ((item.id.0, file_of k) ∷ []) (files_of rest) left (left - length places) r (omega (arith, n, h)) m)
 
   -- at a block of a file
-  pub step_here : (k : Kept) (d : Place) → item.file ≡ Some k → IsKept k → places ≡ k.places → left < length places
+  pub step_here : (k : StoredPlaces) (d : Place) → item.file ≡ Some k → ArePlacesKept k → places ≡ k.places → left < length places
       → WalkMeets (files_of (item ∷ rest)) left (Block item.id left (get_or places left d).version)
   step_here k d e kept p h =
       let n : length places ≡ block_count k.size = ap length p ∙ kept.places in

@@ -11,7 +11,7 @@ use Rattle.iris_shape.specs.Local.{either}
 use Rattle.iris_shape.specs.Folds.{Fold, One, Two, folded}
 use Rattle.iris_shape.specs.FoldLaws.{IsFoldOf, Differ}
 use Rattle.iris_rows.specs.declared.places.Place.{Place}
-use Rattle.iris_rows.specs.Places.{Kept, file_of, version_at, place_version, block_of}
+use Rattle.iris_rows.specs.Places.{StoredPlaces, file_of, version_at, place_version, block_of}
 use Rattle.iris_records.specs.Records.{Records, looked, spelled}
 use Rattle.iris_records.specs.Shown.{in_blocks, block_of_place}
 use Rattle.iris_records.specs.Pieces.{Adds, at_place, kept_block, blocks_below, IsHalved}
@@ -39,12 +39,12 @@ no_first (Block g q) file f = by (g.0 == file) (nat_lt q 0) refl where
 pub blocks_begin : (key : List ℕ) (file : ℕ) (f : File) (s : Records) → Adds key (λ n. blocks_below 0 n file f) s s
 blocks_begin key file f s = λ n. ap (λ o. either (option_map (spelled key n) o) (looked n s)) (sym (no_first n file f))
 
-same_place : (f : Kept) (p : ℕ) (place : Place) → slice_get f.places p ≡ Some place → block_of_place p (file_of f) ≡ kept_block place
+same_place : (f : StoredPlaces) (p : ℕ) (place : Place) → slice_get f.places p ≡ Some place → block_of_place p (file_of f) ≡ kept_block place
 same_place f p place e = ap stored_place e where
   stored_place : Option Place → Option Unfolded
   stored_place o = cond (place_version o == 0) None (Some (Stored (place_version o) (block_of o)))
 
-one_more : (n : Name) (file : ℕ) (f : Kept) (p : ℕ) (place : Place) → slice_get f.places p ≡ Some place
+one_more : (n : Name) (file : ℕ) (f : StoredPlaces) (p : ℕ) (place : Place) → slice_get f.places p ≡ Some place
     → either (at_place n file p place) (blocks_below p n file (file_of f)) ≡ blocks_below (p + 1) n file (file_of f)
 one_more (Entry i) file f p place e = refl
 one_more (Part g l i) file f p place e = refl
@@ -60,17 +60,17 @@ one_more (Block g q) file f p place e = by (g.0 == file) (q == p) refl (nat_lt q
   by true false h false k false l = refl
   by true false h false k true l = absurd (grind (arith, nat_tests))
 
-pub blocks_next : (key : List ℕ) (file : ℕ) (f : Kept) (p : ℕ) (place : Place) (a b c : Records) → slice_get f.places p ≡ Some place → Adds key (λ n. blocks_below p n file (file_of f)) a b
+pub blocks_next : (key : List ℕ) (file : ℕ) (f : StoredPlaces) (p : ℕ) (place : Place) (a b c : Records) → slice_get f.places p ≡ Some place → Adds key (λ n. blocks_below p n file (file_of f)) a b
     → Adds key (λ n. at_place n file p place) b c → Adds key (λ n. blocks_below (p + 1) n file (file_of f)) a c
 blocks_next key file f p place a b c e h k =
     adds_same key _ (λ n. blocks_below (p + 1) n file (file_of f)) a c (λ n. one_more n file f p place e) (adds_twice key (λ n. blocks_below p n file (file_of f)) (λ n. at_place n file p place) a b c h k)
 
-past_end : (f : Kept) (q : ℕ) → slice_get f.places q ≡ None → block_of_place q (file_of f) ≡ None
+past_end : (f : StoredPlaces) (q : ℕ) → slice_get f.places q ≡ None → block_of_place q (file_of f) ≡ None
 past_end f q e = ap stored_place e where
   stored_place : Option Place → Option Unfolded
   stored_place o = cond (place_version o == 0) None (Some (Stored (place_version o) (block_of o)))
 
-pub blocks_all : (n : Name) (file : ℕ) (f : Kept) → blocks_below (length f.places) n file (file_of f) ≡ in_blocks n file (file_of f)
+pub blocks_all : (n : Name) (file : ℕ) (f : StoredPlaces) → blocks_below (length f.places) n file (file_of f) ≡ in_blocks n file (file_of f)
 blocks_all (Entry i) file f = refl
 blocks_all (Part g l i) file f = refl
 blocks_all (Block g q) file f = by (g.0 == file) (nat_lt q (length f.places)) refl where
@@ -79,7 +79,7 @@ blocks_all (Block g q) file f = by (g.0 == file) (nat_lt q (length f.places)) re
   by true true e = refl
   by true false e = sym (past_end f q (let h : length f.places ≤ q = grind (arith, nat_tests) in slice_get_past f.places q h))
 
-pub blocks_end : (key : List ℕ) (file : ℕ) (f : Kept) (a b : Records) → Adds key (λ n. blocks_below (length f.places) n file (file_of f)) a b → Adds key (λ n. in_blocks n file (file_of f)) a b
+pub blocks_end : (key : List ℕ) (file : ℕ) (f : StoredPlaces) (a b : Records) → Adds key (λ n. blocks_below (length f.places) n file (file_of f)) a b → Adds key (λ n. in_blocks n file (file_of f)) a b
 blocks_end key file f a b h = adds_same key (λ n. blocks_below (length f.places) n file (file_of f)) (λ n. in_blocks n file (file_of f)) a b (λ n. blocks_all n file f) h
 
 -- the fold of versions goes down no further than places
@@ -99,7 +99,7 @@ got (y ∷ ys) zero x h e = ap Some (sym e)
 got (y ∷ ys) (suc i) x h e = got ys i x (omega arith) e
 
 -- the fold that the program makes of a file's versions
-pub fold_is : (vs : List ℕ) (f : Kept) (x : Folded) → x ≡ made_fold (folded (λ p. slice_index vs p) 16 0) → ((p : ℕ) → p < 65536 → slice_index vs p ≡ version_at f.places p) → unmade_fold x ≡ folded (file_of f).version 16 0
+pub fold_is : (vs : List ℕ) (f : StoredPlaces) (x : Folded) → x ≡ made_fold (folded (λ p. slice_index vs p) 16 0) → ((p : ℕ) → p < 65536 → slice_index vs p ≡ version_at f.places p) → unmade_fold x ≡ folded (file_of f).version 16 0
 fold_is vs f x e h = ap unmade_fold e ∙ unmade_made_fold (folded (λ p. slice_index vs p) 16 0) ∙ folded_same (λ p. slice_index vs p) (file_of f).version 16 0 (λ p u. h p (let k = u.to in omega (arith, k)))
 
 pub fold_halved : (vs : List ℕ) (x : Folded) → x ≡ made_fold (folded (λ p. slice_index vs p) 16 0) → IsHalved 16 (unmade_fold x)

@@ -6,7 +6,7 @@ use Rattle.iris_name.specs.Names.{same_name}
 use Rattle.iris_name.specs.NameLaws.{same_name-true}
 use Rattle.iris_name.specs.declared.name.Name.{Name}
 use Rattle.iris_name.specs.declared.name.Name.TheVariants.{Entry, Part, Block}
-use Rattle.iris_records.specs.Records.{Records, looked, comes_before, IsFirst, AreInOrder}
+use Rattle.iris_records.specs.Records.{Records, looked, comes_before, IsBeforeFirst, AreInOrder}
 use Rattle.iris_records.specs.Pieces.{lesser, is_next}
 
 irreflexive : (a : Name) → comes_before a a ≡ false
@@ -65,10 +65,10 @@ looked_insert q n b (r ∷ xs) = by (comes_before r.0 n) refl (looked_insert q n
   by true c f = ap (λ z. cond (same_name q r.0) (Some r.1) z) f ∙ swapped (same_name q r.0) (same_name q n) (Some r.1) (Some b) (looked q xs) (apart q r.0 n c)
   by false c f = refl
 
-first_set : (a n : Name) (b : List ℕ) (xs : Records) → is_next (lesser n xs) n xs ≡ true → IsFirst a xs → IsFirst a (slice_set xs (lesser n xs) (n, b))
+first_set : (a n : Name) (b : List ℕ) (xs : Records) → is_next (lesser n xs) n xs ≡ true → IsBeforeFirst a xs → IsBeforeFirst a (slice_set xs (lesser n xs) (n, b))
 first_set a n b [] h f = tt
 first_set a n b (r ∷ xs) h f = by (comes_before r.0 n) h where
-  by : (c : Bool) → is_next (cond c (suc (lesser n xs)) 0) n (r ∷ xs) ≡ true → IsFirst a (slice_set (r ∷ xs) (cond c (suc (lesser n xs)) 0) (n, b))
+  by : (c : Bool) → is_next (cond c (suc (lesser n xs)) 0) n (r ∷ xs) ≡ true → IsBeforeFirst a (slice_set (r ∷ xs) (cond c (suc (lesser n xs)) 0) (n, b))
   by true h = f
   by false h = subst (λ m. comes_before a m ≡ true) (same_name-true r.0 n h) f
 
@@ -77,12 +77,12 @@ order_set n b [] h o = tt
 order_set n b (r ∷ xs) h o = by (comes_before r.0 n) h (λ k. order_set n b xs k o.1) where
   by : (c : Bool) → is_next (cond c (suc (lesser n xs)) 0) n (r ∷ xs) ≡ true → (is_next (lesser n xs) n xs ≡ true → AreInOrder (slice_set xs (lesser n xs) (n, b))) → AreInOrder (slice_set (r ∷ xs) (cond c (suc (lesser n xs)) 0) (n, b))
   by true h f = (first_set r.0 n b xs h o.0, f h)
-  by false h f = (subst (λ m. IsFirst m xs) (same_name-true r.0 n h) o.0, o.1)
+  by false h f = (subst (λ m. IsBeforeFirst m xs) (same_name-true r.0 n h) o.0, o.1)
 
-first_insert : (a n : Name) (b : List ℕ) (xs : Records) → comes_before a n ≡ true → IsFirst a xs → IsFirst a (insert xs (lesser n xs) (n, b))
+first_insert : (a n : Name) (b : List ℕ) (xs : Records) → comes_before a n ≡ true → IsBeforeFirst a xs → IsBeforeFirst a (insert xs (lesser n xs) (n, b))
 first_insert a n b [] h f = h
 first_insert a n b (r ∷ xs) h f = by (comes_before r.0 n) where
-  by : (c : Bool) → IsFirst a (insert (r ∷ xs) (cond c (suc (lesser n xs)) 0) (n, b))
+  by : (c : Bool) → IsBeforeFirst a (insert (r ∷ xs) (cond c (suc (lesser n xs)) 0) (n, b))
   by true = f
   by false = h
 

@@ -17,13 +17,13 @@ use Rattle.iris_node.specs.Unfolded.{Unfolded, Absent, Folder, link_to, node_of,
 use Rattle.iris_node.specs.declared.node.Body.TheVariants.{Dir}
 use Rattle.iris_node.specs.declared.node.Link.{Link}
 use Rattle.iris_node.specs.declared.node.Node.{Node}
-use Rattle.iris_node.specs.declared.node.Node.TheVariants.{Entry as Entry-node}
+use Rattle.iris_node.specs.declared.node.Node.TheVariants.{Entry-node}
 use Rattle.iris_shape.specs.Local.{either}
 use Rattle.iris_rows.specs.declared.item.Item.{Item}
 use Rattle.iris_records.specs.declared.entries.Told.{Told}
 use Rattle.iris_rows.specs.Changes.{hex_digit, hex_digits, trash_name}
 use Rattle.iris_rows.specs.Items.{grown, kept_file, most_depth, IsForestTo, IsForest, table_over}
-use Rattle.iris_rows.specs.Places.{Kept, file_of}
+use Rattle.iris_rows.specs.Places.{StoredPlaces, file_of}
 use Rattle.iris_records.specs.Records.{Records, looked, spelled, AreLive, AreInOrder, root_hash}
 use Rattle.iris_rows.specs.Rows.{Rows, End, Row}
 use Rattle.iris_records.specs.Shown.{directory, in_directory, in_file, inside_rows, shown}
@@ -64,7 +64,7 @@ dir_told order item after top depth e f g =
 pub dir_inside : (order : List ℕ) (n : Name) (item : Item) (after : List Item) (depth : ℕ) → item.file ≡ None → depth ≡ item.depth + 1
     → in_directory n (directory order (grown depth after)) ≡ inside_item order n item item.file after
 dir_inside order n item after depth e f = by item.file e where
-  by : (file : Option Kept) → file ≡ None → in_directory n (directory order (grown depth after)) ≡ inside_item order n item file after
+  by : (file : Option StoredPlaces) → file ≡ None → in_directory n (directory order (grown depth after)) ≡ inside_item order n item file after
   by None e = ap (λ z. in_directory n (directory order (grown z after))) f
   by (Some k) e = absurd (cc)
 
@@ -116,11 +116,11 @@ chain_past order n zero item items h = ap (inside_rows order n) (grown_deeper 0 
 chain_past order n (suc d) item items h =
     ap (λ z. either (inside_rows order n z) (chain order n d (item ∷ items))) (grown_deeper (suc d) item items h) ∙ ap (either (inside_rows order n (grown (suc d) items))) (chain_past order n d item items (omega (arith, h)))
 
-abbrev deeper : List ℕ → Name → Option Kept → Rows → Option Unfolded
+abbrev deeper : List ℕ → Name → Option StoredPlaces → Rows → Option Unfolded
 deeper order n None rows = inside_rows order n rows
 deeper order n (Some f) rows = None
 
-row_inside : (order : List ℕ) (n : Name) (item : Item) (items : List Item) (file : Option Kept) (rest : Option Unfolded) → (e : ℕ) → item.depth ≡ e
+row_inside : (order : List ℕ) (n : Name) (item : Item) (items : List Item) (file : Option StoredPlaces) (rest : Option Unfolded) → (e : ℕ) → item.depth ≡ e
     → either (inside_rows order n (Row item.id.0 item.name (kept_file file) (grown (e + 1) items) (grown e items))) rest
     ≡ either (inside_item order n item file items) (either (deeper order n file (grown (e + 1) items)) (either (inside_rows order n (grown e items)) rest))
 row_inside order n item items None rest e h =
@@ -130,20 +130,20 @@ row_inside order n item items None rest e h =
 row_inside order n item items (Some f) rest e h = sym (either_assoc (in_file n item.id.0 (file_of f)) (inside_rows order n (grown e items)) rest)
 
 -- a row at a depth is what lies inside it, and then what follows
-chain_here : (order : List ℕ) (n : Name) (e : ℕ) (item : Item) (items : List Item) (file : Option Kept) → item.file ≡ file → item.depth ≡ e
+chain_here : (order : List ℕ) (n : Name) (e : ℕ) (item : Item) (items : List Item) (file : Option StoredPlaces) → item.file ≡ file → item.depth ≡ e
     → chain order n e (item ∷ items) ≡ either (inside_item order n item file items) (chain order n (most_depth item file) items)
 chain_here order n zero item items file f h =
     sym (either_none (inside_rows order n (grown 0 (item ∷ items))))
     ∙ ap (λ z. either (inside_rows order n z) None) (row_here 0 item items h ∙ ap (λ z. Row item.id.0 item.name (kept_file z) (grown (0 + 1) items) (grown 0 items)) f)
     ∙ row_inside order n item items file None 0 h ∙ ap (either (inside_item order n item file items)) (ends file) where
-      ends : (file : Option Kept) → either (deeper order n file (grown (0 + 1) items)) (either (inside_rows order n (grown 0 items)) None) ≡ chain order n (most_depth item file) items
+      ends : (file : Option StoredPlaces) → either (deeper order n file (grown (0 + 1) items)) (either (inside_rows order n (grown 0 items)) None) ≡ chain order n (most_depth item file) items
       ends None = ap (either (inside_rows order n (grown (0 + 1) items))) (either_none (inside_rows order n (grown 0 items))) ∙ (let k : suc 0 ≡ item.depth + 1 = omega (arith, h) in ap (λ z. chain order n z items) k)
       ends (Some f) = either_none (inside_rows order n (grown 0 items)) ∙ ap (λ z. chain order n z items) (sym h)
 chain_here order n (suc d) item items file f h =
     ap (λ z. either (inside_rows order n z) (chain order n d (item ∷ items))) (row_here (suc d) item items h ∙ ap (λ z. Row item.id.0 item.name (kept_file z) (grown (suc d + 1) items) (grown (suc d) items)) f)
     ∙ ap (either (inside_rows order n (Row item.id.0 item.name (kept_file file) (grown (suc d + 1) items) (grown (suc d) items)))) (chain_past order n d item items (omega (arith, h)))
     ∙ row_inside order n item items file (chain order n d items) (suc d) h ∙ ap (either (inside_item order n item file items)) (ends file) where
-      ends : (file : Option Kept) → either (deeper order n file (grown (suc d + 1) items)) (either (inside_rows order n (grown (suc d) items)) (chain order n d items)) ≡ chain order n (most_depth item file) items
+      ends : (file : Option StoredPlaces) → either (deeper order n file (grown (suc d + 1) items)) (either (inside_rows order n (grown (suc d) items)) (chain order n d items)) ≡ chain order n (most_depth item file) items
       ends None = (let k : suc d + 1 ≡ suc (suc d) = omega arith in ap (λ z. either (inside_rows order n (grown z items)) (chain order n (suc d) items)) k) ∙ (let k : suc (suc d) ≡ item.depth + 1 = omega (arith, h) in ap (λ z. chain order n z items) k)
       ends (Some f) = ap (λ z. chain order n z items) (sym h)
 
@@ -233,11 +233,11 @@ fits_all d (item ∷ items) f h = (fit, fits_all (most_depth item item.file) ite
     by false e true g = let m : k ≡ item.depth = grind (arith, nat_tests) in subst (λ z. P (grown z items)) (sym m) b
     by false e false g = let m : k ≡ item.depth + 1 = grind (arith, nat_tests) in subst (λ z. P (grown z items)) (sym m) c
 
-  most : (file : Option Kept) (k : ℕ) → k ≤ most_depth item file → k ≤ item.depth + 1
+  most : (file : Option StoredPlaces) (k : ℕ) → k ≤ most_depth item file → k ≤ item.depth + 1
   most None k l = l
   most (Some f) k l = omega (arith, l)
 
-  next : (file : Option Kept) → Fits (most_depth item file) items
+  next : (file : Option StoredPlaces) → Fits (most_depth item file) items
   next file = record {
     ordered = λ k l. at IsOrdered h.ordered ordered.3 ordered.2 k (most file k l);
     once = λ i k l. at (λ z. times_given i z ≤ 1) (λ k l. h.once i k l) (let o = once i in omega (arith, o)) (let o = once i in omega (arith, o)) k (most file k l);

@@ -13,7 +13,7 @@ use Rattle.iris_rows.specs.Standing.{Has, StandsInTable}
 use Rattle.iris_records.specs.Challenges.{table_walk}
 use Rattle.iris_rows.specs.declared.item.Item.{Item}
 use Rattle.iris_rows.specs.Items.{grown, kept_file, most_depth, IsForestTo, IsForest, table_over}
-use Rattle.iris_rows.specs.Places.{Kept}
+use Rattle.iris_rows.specs.Places.{StoredPlaces}
 use Rattle.iris_rows.specs.Rows.{File, Rows, End, Row}
 use Rattle.iris_records.specs.Shown.{Own, own_id, entry_above, unfolded_entries, treap_of_entries, owns, directory}
 use Rattle.iris_records.specs.Strides.{own_file, files_of, blocks_of_all}
@@ -99,7 +99,7 @@ files_grown d m (i ∷ items) f = elim (compared i.depth d) [
         ∙ sym (files_lower d i items (omega arith))
   ]
 ] where
-  here : (k : Option Kept) → i.depth ≡ d → IsForestTo (most_depth i k) items → files_to (d + 1 + 1) items ++ files_in (grown (d + 1) items) ≡ files_to (d + 1) items
+  here : (k : Option StoredPlaces) → i.depth ≡ d → IsForestTo (most_depth i k) items → files_to (d + 1 + 1) items ++ files_in (grown (d + 1) items) ≡ files_to (d + 1) items
       → files_to (d + 1) items ++ files_in (grown d items) ≡ files_to d items
       → files_in (row_of (record { depth = i.depth; id = i.id; name = i.name; file = k }) (grown (d + 1) items) (grown d items)) ≡ own_file i.id.0 (kept_file k) ++ files_to d items
   here None e g one two =

@@ -53,14 +53,14 @@ comes_before (Block f p) (Part g m j) = false
 comes_before (Block f p) (Block g q) = nat_lt f.0 g.0 || ((f.0 == g.0) && nat_lt p q)
 
 -- a name comes before the first of records
-abbrev pub IsFirst : Name → Records → Type 0
-IsFirst n [] = Unit {0}
-IsFirst n (r ∷ records) = comes_before n r.0 ≡ true
+abbrev pub IsBeforeFirst : Name → Records → Type 0
+IsBeforeFirst n [] = Unit {0}
+IsBeforeFirst n (r ∷ records) = comes_before n r.0 ≡ true
 
 -- each name comes before the next
 abbrev pub AreInOrder : Records → Type 0
 AreInOrder [] = Unit {0}
-AreInOrder (r ∷ records) = IsFirst r.0 records × AreInOrder records
+AreInOrder (r ∷ records) = IsBeforeFirst r.0 records × AreInOrder records
 
 -- exactly the live names, in order, each with its true record
 pub record AreLive (keys : Keys) (t : Table) (records : Records) : Type 0 where

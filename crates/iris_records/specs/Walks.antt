@@ -12,7 +12,7 @@ use Rattle.iris_rows.specs.declared.item.Item.{Item}
 use Rattle.iris_records.specs.declared.entries.Told.{Told}
 use Rattle.iris_records.specs.declared.entries.Level.{Level}
 use Rattle.iris_rows.specs.Items.{grown, kept_file}
-use Rattle.iris_rows.specs.Places.{Kept, file_of}
+use Rattle.iris_rows.specs.Places.{StoredPlaces, file_of}
 use Rattle.iris_rows.specs.Rows.{File, Rows, End, Row as TableRow}
 use Rattle.iris_records.specs.Shown.{Own, entry_above, owns, versions, directory, in_directory, in_file}
 use Rattle.iris_records.specs.Pieces.{file_told}
@@ -97,7 +97,7 @@ pub record IsItem (item : Item) : Type 0 where
   pub id : 2 ≤ item.id.0
   pub name : is_step item.name ≡ true
 
-abbrev pub inside_item : List ℕ → Name → Item → Option Kept → List Item → Option Unfolded
+abbrev pub inside_item : List ℕ → Name → Item → Option StoredPlaces → List Item → Option Unfolded
 inside_item order n item None items = in_directory n (directory order (grown (item.depth + 1) items))
 inside_item order n item (Some f) items = in_file n item.id.0 (file_of f)
 

@@ -10,7 +10,7 @@ use Rattle.iris_rows.specs.Rows.{File, zeros}
 use Rattle.iris_rows.specs.Sound.{ArePages}
 use Rattle.iris_rows.specs.View.{joined, content}
 use Rattle.iris_rows.specs.FileChanges.{merged, is_touched, file_written, cut, count_written, freed}
-use Rattle.iris_rows.specs.Places.{IsKept, IsPlace, place_version, block_of, version_at, block_at, file_of, hole, paged, put_pages, cut_page, split_places}
+use Rattle.iris_rows.specs.Places.{ArePlacesKept, IsPlace, place_version, block_of, version_at, block_at, file_of, hole, paged, put_pages, cut_page, split_places}
 use Rattle.iris_rows.proofs.ResizedContent.{length-zeros}
 use Rattle.iris_rows.proofs.WrittenContent.{written_pages, less_or, length-joined, get_or-joined, length-content, get_or-content}
 use Rattle.iris_rows.proofs.KeptPlaces.{slice_get-set_same, slice_get-set_other, slice_get-take, version-holes, block-holes, places-holes, version_past, block_past, pages_of, hole_block}
@@ -20,7 +20,7 @@ same_file : (f g : File) → f.size ≡ g.size → f.counter ≡ g.counter → (
 same_file f g s c v b = λ i. record { size = s i; counter = c i; version = λ p. v p i; block = λ p. b p i }
 
 -- longer, by holes
-module _ (old size counter : ℕ) (places : List Place) (up : old ≤ size) (kept : IsKept (record { size = old; counter = counter; places = places })) where
+module _ (old size counter : ℕ) (places : List Place) (up : old ≤ size) (kept : ArePlacesKept (record { size = old; counter = counter; places = places })) where
   more : ℕ
   more = blocks_of size - length places
 
@@ -40,7 +40,7 @@ module _ (old size counter : ℕ) (places : List Place) (up : old ≤ size) (kep
   fit_up = same_file _ _ refl refl (λ p. version-holes places (blocks_of size - length places) p ∙ up_version p (nat_le (blocks_of size) p) (nat_lt size old) refl refl)
       (λ p. block-holes places (blocks_of size - length places) p ∙ up_block p (nat_le (blocks_of size) p) (nat_lt size old) refl refl)
 
-  pub kept_up : size ≤ 268435456 → IsKept (record { size = size; counter = counter + 1; places = places ++ replicate (blocks_of size - length places) hole })
+  pub kept_up : size ≤ 268435456 → ArePlacesKept (record { size = size; counter = counter + 1; places = places ++ replicate (blocks_of size - length places) hole })
   kept_up h = record {
     places = omega (arith, length-append places (replicate (blocks_of size - length places) hole), length-replicate {A = Place} (blocks_of size - length places) hole, kept.places);
     size = h;
@@ -64,7 +64,7 @@ cut-zeros m h = ext_get_or 0 _ _ (omega (arith, length-cut_page m zeros h length
   by i (inr b) l = get_or-append_right (take m (replicate 4096 0)) _ m i 0 long b ∙ all (4096 - m) (i - m) (omega arith) ∙ sym (all 4096 i l)
 
 -- shorter, with the place that the end splits
-module _ (old size counter : ℕ) (places : List Place) (down : size < old) (kept : IsKept (record { size = old; counter = counter; places = places })) where
+module _ (old size counter : ℕ) (places : List Place) (down : size < old) (kept : ArePlacesKept (record { size = old; counter = counter; places = places })) where
   q : ℕ
   q = size / 4096
 
@@ -140,7 +140,7 @@ module _ (old size counter : ℕ) (places : List Place) (down : size < old) (kep
       subst IsPlace (sym (slice_get-take (blocks_of size) _ p k ∙ ap (slice_get (split_places size (counter + 1) places)) e ∙ down_same false ec))
       (omega arith, length-cut_page (size % 4096) (block_at places (size / 4096)) (omega arith) (pages_of places kept.holes (size / 4096)))
 
-  pub kept_down : IsKept (record { size = size; counter = counter + 1; places = take (blocks_of size) (split_places size (counter + 1) places) })
+  pub kept_down : ArePlacesKept (record { size = size; counter = counter + 1; places = take (blocks_of size) (split_places size (counter + 1) places) })
   kept_down = record {
     places = long;
     size = omega (arith, kept.size, down);
@@ -148,19 +148,19 @@ module _ (old size counter : ℕ) (places : List Place) (down : size < old) (kep
   }
 
 -- the same of places that are these by an equation
-pub fits_up : (old size counter : ℕ) (places now : List Place) (blocks : ℕ) → blocks ≡ blocks_of size → old ≤ size → IsKept (record { size = old; counter = counter; places = places })
+pub fits_up : (old size counter : ℕ) (places now : List Place) (blocks : ℕ) → blocks ≡ blocks_of size → old ≤ size → ArePlacesKept (record { size = old; counter = counter; places = places })
     → now ≡ places ++ replicate (blocks - length places) hole → file_of (record { size = size; counter = counter + 1; places = now }) ≡ cut size (file_of (record { size = old; counter = counter; places = places }))
 fits_up old size counter places now blocks e up kept h =
     ap (λ (ps : List Place). file_of (record { size = size; counter = counter + 1; places = ps })) (h ∙ ap (λ n. places ++ replicate (n - length places) hole) e) ∙ fit_up old size counter places up kept
 
-pub keeps_up : (old size counter : ℕ) (places now : List Place) (blocks : ℕ) → blocks ≡ blocks_of size → old ≤ size → IsKept (record { size = old; counter = counter; places = places })
-    → size ≤ 268435456 → now ≡ places ++ replicate (blocks - length places) hole → IsKept (record { size = size; counter = counter + 1; places = now })
-keeps_up old size counter places now blocks e up kept room h = let P : List Place → Type 0 = λ ps. IsKept (record { size = size; counter = counter + 1; places = ps }) in
+pub keeps_up : (old size counter : ℕ) (places now : List Place) (blocks : ℕ) → blocks ≡ blocks_of size → old ≤ size → ArePlacesKept (record { size = old; counter = counter; places = places })
+    → size ≤ 268435456 → now ≡ places ++ replicate (blocks - length places) hole → ArePlacesKept (record { size = size; counter = counter + 1; places = now })
+keeps_up old size counter places now blocks e up kept room h = let P : List Place → Type 0 = λ ps. ArePlacesKept (record { size = size; counter = counter + 1; places = ps }) in
     subst P (sym (h ∙ ap (λ n. places ++ replicate (n - length places) hole) e)) (kept_up old size counter places up kept room)
 
 -- after a write
 module _ (size counter offset : ℕ) (bytes : List ℕ) (old mid new : List Place) (pages : List (List ℕ))
-    (kept : IsKept (record { size = size; counter = counter; places = old }))
+    (kept : ArePlacesKept (record { size = size; counter = counter; places = old }))
     (some : 0 < length bytes)
     (mid_is : mid ≡ old ++ replicate (blocks_of (offset + length bytes) - length old) hole)
     (long : length pages ≡ (offset + length bytes - 1) / 4096 + 1 - offset / 4096)
@@ -198,7 +198,7 @@ module _ (size counter offset : ℕ) (bytes : List ℕ) (old mid new : List Plac
       subst IsPlace (sym (at_touched p t)) (omega arith, sym (ap (λ b. length (cond b (merged offset bytes p (block_at old p)) (block_at old p))) t) ∙ m)
   wrote_place p false t = subst IsPlace (sym (at_other p t)) (places-holes old (blocks_of (offset + length bytes) - length old) kept.holes p)
 
-  pub kept_write : offset + length bytes ≤ 268435456 → IsKept (record { size = cond (nat_lt size (offset + length bytes)) (offset + length bytes) size; counter = counter + 1; places = new })
+  pub kept_write : offset + length bytes ≤ 268435456 → ArePlacesKept (record { size = cond (nat_lt size (offset + length bytes)) (offset + length bytes) size; counter = counter + 1; places = new })
   kept_write room = record {
     places = counted (nat_lt size (offset + length bytes)) refl;
     size = bounded (nat_lt size (offset + length bytes));

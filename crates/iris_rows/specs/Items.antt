@@ -1,11 +1,11 @@
 -- Rows in preorder, each with its depth: the forest that they make.
 use Rattle.std.specs.Prelude.{◌≤◌, ◌+◌, ℕ, List, [], ◌∷◌, Option, Some, None, nat_lt, if◌then◌else◌}
 use Rattle.iris_rows.specs.declared.item.Item.{Item}
-use Rattle.iris_rows.specs.Places.{Kept, file_of}
+use Rattle.iris_rows.specs.Places.{StoredPlaces, file_of}
 use Rattle.iris_rows.specs.Rows.{File, Rows, End, Row, Table}
 
 -- a file where one is kept
-abbrev pub kept_file : Option Kept → Option File
+abbrev pub kept_file : Option StoredPlaces → Option File
 kept_file None = None
 kept_file (Some f) = Some (file_of f)
 
@@ -17,7 +17,7 @@ grown d (item ∷ items) =
     else Row item.id.0 item.name (kept_file item.file) (grown (d + 1) items) (grown d items)
 
 -- how deep the next item may lie: beside a file, or inside a directory
-abbrev pub most_depth : Item → Option Kept → ℕ
+abbrev pub most_depth : Item → Option StoredPlaces → ℕ
 most_depth item None = item.depth + 1
 most_depth item (Some f) = item.depth
 

@@ -5,7 +5,7 @@ use Rattle.iris_rows.specs.declared.places.Place.{Place}
 use Rattle.iris_rows.specs.Rows.{File, zeros}
 
 -- the length, the counter of writes and the places
-pub record Kept : Type 0 where
+pub record StoredPlaces : Type 0 where
   pub size : ℕ
   pub counter : ℕ
   pub places : List Place
@@ -25,7 +25,7 @@ abbrev pub ArePlaces : List Place → Type 0
 ArePlaces places = (p : ℕ) → IsPlace (slice_get places p)
 
 -- as many places as the length has blocks
-pub record IsKept (f : Kept) : Type 0 where
+pub record ArePlacesKept (f : StoredPlaces) : Type 0 where
   pub places : length f.places ≡ blocks_of f.size
   pub size : f.size ≤ 268435456
   pub holes : ArePlaces f.places
@@ -54,7 +54,7 @@ abbrev pub block_at : List Place → ℕ → List ℕ
 block_at places p = block_of (slice_get places p)
 
 -- the file that is kept
-abbrev pub file_of : Kept → File
+abbrev pub file_of : StoredPlaces → File
 file_of f = record {
   size = f.size;
   counter = f.counter;

@@ -5,7 +5,7 @@ ghost use Rattle.iris_plain.specs.Checks.{blocks_of};
 ghost use Rattle.iris_rows.specs.Rows.{empty_file};
 ghost use Rattle.iris_rows.specs.FileChanges.{file_written, cut, freed, count_written};
 ghost use Rattle.iris_rows.specs.View.{content, joined};
-ghost use Rattle.iris_rows.specs.Places.{Kept, IsKept, file_of, hole};
+ghost use Rattle.iris_rows.specs.Places.{StoredPlaces, ArePlacesKept, file_of, hole};
 
 use crate::places::{Place, are_holes, free, joined, refit, write_over};
 use iris_name::{Bytes, NoMemory};
@@ -23,13 +23,13 @@ pub struct FileRow {
 }
 
 impl Model for FileRow {
-    ghost use Rattle.iris_rows.specs.Places.{Kept, IsKept};
+    ghost use Rattle.iris_rows.specs.Places.{StoredPlaces, ArePlacesKept};
 
-    ghost Value = { Kept };
+    ghost Value = { StoredPlaces };
 
     ghost view = { λ f. record { size = f.size; counter = f.counter; places = f.places.items } };
 
-    ghost invariant = { λ f. IsKept (record { size = f.size; counter = f.counter; places = f.places.items }) };
+    ghost invariant = { λ f. ArePlacesKept (record { size = f.size; counter = f.counter; places = f.places.items }) };
 }
 
 impl FileRow {
@@ -54,7 +54,7 @@ impl FileRow {
     /// How many writes it has had.
     pub fn counter(&self) -> u64
         ensures counter { result ≡ self.now.counter }
-        ensures kept { IsKept self.now }
+        ensures kept { ArePlacesKept self.now }
     {
         self.counter
     }
@@ -62,7 +62,7 @@ impl FileRow {
     /// Its places, up to its number of blocks.
     pub fn places(&self) -> &[Place]
         ensures places { result.now ≡ self.now.places }
-        ensures kept { IsKept self.now }
+        ensures kept { ArePlacesKept self.now }
     {
         self.places.as_slice()
     }

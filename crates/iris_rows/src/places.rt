@@ -6,7 +6,7 @@ ghost use Rattle.iris_plain.specs.Checks.{blocks_of};
 ghost use Rattle.iris_rows.specs.Rows.{zeros};
 ghost use Rattle.iris_rows.specs.FileChanges.{file_written, cut, freed, count_written, merged};
 ghost use Rattle.iris_rows.specs.View.{joined};
-ghost use Rattle.iris_rows.specs.Places.{IsKept, file_of, version_at, block_at, hole, ArePlaces, put_pages, cut_page, split_places};
+ghost use Rattle.iris_rows.specs.Places.{ArePlacesKept, file_of, version_at, block_at, hole, ArePlaces, put_pages, cut_page, split_places};
 
 use iris_name::{NoMemory, PAGE_LEN, Page};
 use iris_plain::bytes::copy_at;
@@ -154,10 +154,10 @@ pub(crate) fn write_over(
     requires some { 0 < length bytes.now }
     requires room { offset + length bytes.now ≤ 268435456 }
     requires counter { counter < 2 ^ 63 }
-    requires kept { IsKept (record { size = size; counter = counter; places = places.old.items }) }
+    requires kept { ArePlacesKept (record { size = size; counter = counter; places = places.old.items }) }
     ensures ok { OnOk result (file_of (record { size = if nat_lt size (offset + length bytes.now) then offset + length bytes.now else size; counter = counter + 1; places = places.new.items })
         ≡ file_written offset bytes.now (file_of (record { size = size; counter = counter; places = places.old.items }))) }
-    ensures kept { OnOk result (IsKept (record { size = if nat_lt size (offset + length bytes.now) then offset + length bytes.now else size; counter = counter + 1; places = places.new.items })) }
+    ensures kept { OnOk result (ArePlacesKept (record { size = if nat_lt size (offset + length bytes.now) then offset + length bytes.now else size; counter = counter + 1; places = places.new.items })) }
     ensures err { OnErr result (places.new.items ≡ places.old.items) }
 {
     let end = offset + bytes.len() as u64;
@@ -211,9 +211,9 @@ pub(crate) fn refit(
 ) -> Result<(), NoMemory>
     requires room { size ≤ 268435456 }
     requires counter { counter < 2 ^ 63 }
-    requires kept { IsKept (record { size = old; counter = counter; places = places.old.items }) }
+    requires kept { ArePlacesKept (record { size = old; counter = counter; places = places.old.items }) }
     ensures ok { OnOk result (file_of (record { size = size; counter = counter + 1; places = places.new.items }) ≡ cut size (file_of (record { size = old; counter = counter; places = places.old.items }))) }
-    ensures kept { OnOk result (IsKept (record { size = size; counter = counter + 1; places = places.new.items })) }
+    ensures kept { OnOk result (ArePlacesKept (record { size = size; counter = counter + 1; places = places.new.items })) }
     ensures err { OnErr result (places.new.items ≡ places.old.items) }
 {
     let blocks = blocks_of(size) as usize;

@@ -8,7 +8,7 @@ top Empty = None
 top (Over y l m) = Some y
 
 -- what a node says: its row, and the rows to which its links to lesser and to greater names lead
-pub record Local (A : Type 0) : Type 0 where
+pub record RowLinks (A : Type 0) : Type 0 where
   pub row : A
   pub less : Option A
   pub more : Option A
@@ -19,6 +19,6 @@ either None b = b
 either (Some x) b = Some x
 
 -- the node of a row for which the test holds
-abbrev pub found : {A : Type 0} → (A → Bool) → Treap A → Option (Local A)
+abbrev pub found : {A : Type 0} → (A → Bool) → Treap A → Option (RowLinks A)
 found g Empty = None
 found g (Over y l m) = cond (g y) (Some (record { row = y; less = top l; more = top m })) (either (found g l) (found g m))

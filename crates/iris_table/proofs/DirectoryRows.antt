@@ -6,12 +6,12 @@ use Rattle.iris_plain.specs.Routes.{parent, last}
 use Rattle.iris_plain.specs.Pages.{NoneLater, IsPage}
 use Rattle.iris_plain.specs.declared.checks.Seen.{Seen}
 use Rattle.iris_plain.specs.declared.checks.Seen.TheVariants.{ADirectory, AFile, Nothing, AFileBefore}
-use Rattle.iris_plain.specs.Steps.{has_name}
+use Rattle.iris_plain.specs.Steps.{has_entry_named}
 use Rattle.iris_rows.specs.declared.item.Item.{Item}
 use Rattle.iris_table.specs.declared.rows.Stop.{Stop}
 use Rattle.iris_table.specs.declared.rows.Stop.TheVariants.{Standing, Absent, Barred}
 use Rattle.iris_rows.specs.Changes.{seen_row, seen_file}
-use Rattle.iris_rows.specs.Places.{Kept}
+use Rattle.iris_rows.specs.Places.{StoredPlaces}
 use Rattle.iris_rows.specs.Items.{grown, kept_file, IsForest, IsForestTo, most_depth}
 use Rattle.iris_rows.specs.Rows.{Rows, Taken, Found, Here, Missing, Through, find, with_row, at}
 use Rattle.iris_rows.specs.View.{kind_below}
@@ -49,7 +49,7 @@ front_more (suc k) [] i others new e = absurd (cc)
 front_more (suc k) (x ∷ xs) i others new e = ap (λ z. x ∷ z) (front_more k xs i others new e)
 
 module _ (items : List Item) (n : List ℕ) (ns : List (List ℕ)) where
-  standing : (k : ℕ) (i : Item) (others : List Item) (file : Option Kept) → stop 0 (n ∷ ns) items ≡ Standing k → drop k items ≡ i ∷ others → i.depth ≡ 0 + length ns → i.file ≡ file
+  standing : (k : ℕ) (i : Item) (others : List Item) (file : Option StoredPlaces) → stop 0 (n ∷ ns) items ≡ Standing k → drop k items ≡ i ∷ others → i.depth ≡ 0 + length ns → i.file ≡ file
       → is_directory_seen (seen_file (kept_file file)) ≡ true → IsOpened items (n ∷ ns) (suc k)
   standing k i others None s e d f h =
       let rest : drop (suc k) items ≡ others = after_first k items i others e in
@@ -160,14 +160,14 @@ leaf_run names items i n h e d f g = let Q : List Item → Type 0 = λ z. IsRun 
 
 -- a page of the directory at a path
 pub page_is : (items : List Item) (names : List (List ℕ)) (after : List ℕ) (page : List (List ℕ)) (from : ℕ) → ADirectory ≡ seen_row (met_in items names) → from ≡ first_inside names (stop 0 names items)
-    → IsPage (is_name_of (grown (length names) (drop from items))) 64 after page → IsPage (has_name (λ q. kind_below q (root_of items)) names) 64 after page
+    → IsPage (is_name_of (grown (length names) (drop from items))) 64 after page → IsPage (has_entry_named (λ q. kind_below q (root_of items)) names) 64 after page
 page_is items names after page from h e p =
     let Q : ℕ → Type 0 = λ k. IsOpened items names k in
     let o : IsOpened items names from = subst Q (sym e) (opened items names (ap is_directory_seen (sym h))) in
     page_alike _ _ 64 after page (page_names names (root_of items) (record { id = o.id; file = None; inside = grown (length names) (drop from items) }) o.inside refl) p
 
 pub page_rest : (items : List Item) (names : List (List ℕ)) (after : List ℕ) (page : List (List ℕ)) (from : ℕ) → ADirectory ≡ seen_row (met_in items names) → from ≡ first_inside names (stop 0 names items)
-    → IsPage (is_name_of (grown (length names) (take (length items - from) (drop from items)))) 64 after page → IsPage (has_name (λ q. kind_below q (root_of items)) names) 64 after page
+    → IsPage (is_name_of (grown (length names) (take (length items - from) (drop from items)))) 64 after page → IsPage (has_entry_named (λ q. kind_below q (root_of items)) names) 64 after page
 page_rest items names after page from h e p = let Q : List Item → Type 0 = λ z. IsPage (is_name_of (grown (length names) z)) 64 after page in
     page_is items names after page from h e (subst Q (take_all (length items - from) (drop from items) (omega (arith, length-drop from items))) p)
 
@@ -177,5 +177,5 @@ no_dir (AFile size) h = refl
 no_dir Nothing h = refl
 no_dir AFileBefore h = refl
 
-pub page_none : (items : List Item) (names : List (List ℕ)) (after : List ℕ) (s : Seen) → s ≡ seen_row (met_in items names) → (s ≡ ADirectory → ⊥) → NoneLater (has_name (λ q. kind_below q (root_of items)) names) after
+pub page_none : (items : List Item) (names : List (List ℕ)) (after : List ℕ) (s : Seen) → s ≡ seen_row (met_in items names) → (s ≡ ADirectory → ⊥) → NoneLater (has_entry_named (λ q. kind_below q (root_of items)) names) after
 page_none items names after s e h = no_names names (root_of items) after (ap is_directory_seen (sym e) ∙ no_dir s h)

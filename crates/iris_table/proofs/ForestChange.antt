@@ -4,7 +4,7 @@ use Rattle.std.specs.Str.{bytes_eq}
 use Rattle.iris_rows.specs.declared.item.Item.{Item}
 use Rattle.iris_table.specs.declared.rows.Stop.{Stop}
 use Rattle.iris_table.specs.declared.rows.Stop.TheVariants.{Standing, Absent, Barred}
-use Rattle.iris_rows.specs.Places.{Kept}
+use Rattle.iris_rows.specs.Places.{StoredPlaces}
 use Rattle.iris_rows.specs.Items.{grown}
 use Rattle.iris_rows.specs.Rows.{File, Rows, without_row, at, file_at}
 use Rattle.iris_table.specs.Stops.{stop, later, passed}
@@ -91,7 +91,7 @@ module _ (P : ℕ → List ℕ → List (List ℕ) → List Item → ℕ → Typ
   by_later d n ns i items k Absent e f = absurd (cc)
   by_later d n ns i items k Barred e f = absurd (cc)
 
-  by_passed : (d : ℕ) (n : List ℕ) (ns : List (List ℕ)) (i : Item) (items : List Item) (k : ℕ) (file : Option Kept) → i.file ≡ file → i.depth ≡ d → bytes_eq n i.name ≡ true
+  by_passed : (d : ℕ) (n : List ℕ) (ns : List (List ℕ)) (i : Item) (items : List Item) (k : ℕ) (file : Option StoredPlaces) → i.file ≡ file → i.depth ≡ d → bytes_eq n i.name ≡ true
       → ((m : List ℕ) (ms : List (List ℕ)) (j : ℕ) → stop (d + 1) (m ∷ ms) items ≡ Standing j → P (d + 1) m ms items j)
       → passed ns file (later (stop (d + 1) ns items)) ≡ Standing k → P d n ns (i ∷ items) k
   by_passed d n [] i items k file f h e go x = let Q : ℕ → Type 0 = λ y. P d n [] (i ∷ items) y in let z : 0 ≡ k = cc in subst Q z (on_arrival d n i items h e)

@@ -3,7 +3,7 @@ use Rattle.std.proofs.Common.{◌≡◌, inl, inr, ℕ, zero, suc, ◌+◌, ◌-
 use Rattle.std.proofs.lemmas.List.{append-nil}
 use Rattle.iris_plain.specs.Routes.{is_name_before}
 use Rattle.iris_rows.specs.declared.item.Item.{Item}
-use Rattle.iris_rows.specs.Places.{Kept}
+use Rattle.iris_rows.specs.Places.{StoredPlaces}
 use Rattle.iris_rows.specs.Items.{most_depth, IsForestTo}
 use Rattle.iris_table.specs.Stops.{deeper, room, relabelled, AreDeeper, AreWithin}
 use Rattle.iris_rows.proofs.GrownRows.{lt_true, lt_false, compared}
@@ -24,11 +24,11 @@ forest_joined m zero items new f g = g
 forest_joined m (suc k) [] new f g = g
 forest_joined m (suc k) (i ∷ items) new f g = (f.0, forest_joined (most_depth i i.file) k items new f.1 g)
 
-pub most_least : (i : Item) (f : Option Kept) → i.depth ≤ most_depth i f
+pub most_least : (i : Item) (f : Option StoredPlaces) → i.depth ≤ most_depth i f
 most_least i None = omega arith
 most_least i (Some f) = omega arith
 
-pub most_most : (i : Item) (f : Option Kept) → most_depth i f ≤ i.depth + 1
+pub most_most : (i : Item) (f : Option StoredPlaces) → most_depth i f ≤ i.depth + 1
 most_most i None = omega arith
 most_most i (Some f) = omega arith
 
@@ -86,7 +86,7 @@ module _ (d : ℕ) (r : Item) (rs : List Item) (here : r.depth ≡ d) (deep : Ar
 pub forest_relabelled : (d e m : ℕ) (items : List Item) → AreWithin d e items → d ≤ m → IsForestTo m items → IsForestTo (m - d + e) (map (relabelled d e) items)
 forest_relabelled d e m [] a h f = tt
 forest_relabelled d e m (i ∷ items) a h f = (omega (arith, a.0, f.0), by i.file (forest_relabelled d e (most_depth i i.file) items a.2 (let x = most_least i i.file in omega (arith, a.0)) f.1)) where
-  by : (g : Option Kept) → IsForestTo (most_depth i g - d + e) (map (relabelled d e) items) → IsForestTo (most_depth (relabelled d e i) g) (map (relabelled d e) items)
+  by : (g : Option StoredPlaces) → IsForestTo (most_depth i g - d + e) (map (relabelled d e) items) → IsForestTo (most_depth (relabelled d e i) g) (map (relabelled d e) items)
   by None p = let Q : ℕ → Type 0 = λ x. IsForestTo x (map (relabelled d e) items) in let x : i.depth + 1 - d + e ≡ i.depth - d + e + 1 = omega (arith, a.0) in subst Q x p
   by (Some g) p = p
 

@@ -6,7 +6,7 @@ use Rattle.std.specs.Str.{bytes_eq}
 use Rattle.iris_rows.specs.declared.item.Item.{Item}
 use Rattle.iris_table.specs.declared.rows.Stop.{Stop}
 use Rattle.iris_table.specs.declared.rows.Stop.TheVariants.{Standing, Absent, Barred}
-use Rattle.iris_rows.specs.Places.{Kept, file_of}
+use Rattle.iris_rows.specs.Places.{StoredPlaces, file_of}
 use Rattle.iris_rows.specs.Items.{grown, kept_file}
 use Rattle.iris_rows.specs.Rows.{File, Rows, Found, Here, Missing, Through, find, resolved, followed, entered}
 use Rattle.iris_table.specs.Stops.{stop, later, passed, run_row, met_in, file_met}
@@ -30,7 +30,7 @@ find_here : (n : List ℕ) (i : Item) (inside next : Rows) → find n (row_of i 
 unfolding row_of
 find_here n i inside next = refl
 
-onward : (n : List ℕ) (d : ℕ) (ns : List (List ℕ)) (i : Item) (items : List Item) (file : Option Kept) → ((m : List ℕ) (ms : List (List ℕ)) → Meets (d + 1) m ms items)
+onward : (n : List ℕ) (d : ℕ) (ns : List (List ℕ)) (i : Item) (items : List Item) (file : Option StoredPlaces) → ((m : List ℕ) (ms : List (List ℕ)) → Meets (d + 1) m ms items)
     → i.depth ≡ d → i.file ≡ file → found (i ∷ items) (passed ns file (later (stop (d + 1) ns items))) ≡ resolved ns (record { id = i.id.0; file = kept_file i.file; inside = grown (d + 1) items })
 onward n d [] i items file go h e = ap (λ x. Here (record { id = i.id.0; file = kept_file i.file; inside = grown (x + 1) items })) h
 onward n d (m ∷ ms) i items None go h e = found_later i items (stop (d + 1) (m ∷ ms) items) ∙ go m ms ∙ ap (λ f. entered (kept_file f) (followed (find m (grown (d + 1) items)) (λ below. resolved ms below))) (sym e)
@@ -75,7 +75,7 @@ pub met_barred : (items : List Item) (names : List (List ℕ)) → 0 < length na
 met_barred items names h s = met_stop items names h ∙ ap (found items) (sym s)
 
 -- a file met, as it is lent
-pub file_lent : (o : Option (Bor Kept)) (f : Option Kept) (m : Option File) → option_copied o ≡ f → m ≡ kept_file f → MatchOption o (m ≡ None) (λ file. m ≡ Some (file_of file.now))
+pub file_lent : (o : Option (Bor StoredPlaces)) (f : Option StoredPlaces) (m : Option File) → option_copied o ≡ f → m ≡ kept_file f → MatchOption o (m ≡ None) (λ file. m ≡ Some (file_of file.now))
 file_lent None f m e h = h ∙ ap kept_file (sym e)
 file_lent (Some x) f m e h = h ∙ ap kept_file (sym e)
 

@@ -6,7 +6,7 @@ use Rattle.iris_plain.specs.Checks.{is_directory_seen}
 use Rattle.iris_plain.specs.Pages.{NoneLater, IsNext, IsPage}
 use Rattle.iris_plain.specs.declared.files.Kind.{Kind}
 use Rattle.iris_rows.specs.Changes.{seen_row, seen_file}
-use Rattle.iris_plain.specs.Steps.{has_name}
+use Rattle.iris_plain.specs.Steps.{has_entry_named}
 use Rattle.iris_rows.specs.declared.item.Item.{Item}
 use Rattle.iris_rows.specs.Items.{grown, kept_file}
 use Rattle.iris_rows.specs.Rows.{File, Rows, End, Taken, Here, find, resolved, followed, entered}
@@ -71,7 +71,7 @@ some_bound None f = refl
 some_bound (Some below) f = refl
 
 -- the names of a directory that is there
-pub page_names : (names : List (List ℕ)) (root row : Taken) → resolved names root ≡ Here row → row.file ≡ None → (m : List ℕ) → is_name_of row.inside m ≡ has_name (λ q. kind_below q root) names m
+pub page_names : (names : List (List ℕ)) (root row : Taken) → resolved names root ≡ Here row → row.file ≡ None → (m : List ℕ) → is_name_of row.inside m ≡ has_entry_named (λ q. kind_below q root) names m
 page_names names root row e d m = sym (ap is_some (look_below names (m ∷ []) root row e ∙ ap (λ f. into f (bound (find m row.inside) (λ below. kind_below [] below))) d) ∙ some_bound (find m row.inside) (λ below. kind_of below.file))
 
 past_file : (ns : List (List ℕ)) (root : Taken) (m : List ℕ) → is_directory_seen (seen_row (resolved ns root)) ≡ false → kind_found (resolved (ns ++ m ∷ []) root) ≡ None
@@ -87,8 +87,8 @@ past_file (n ∷ ns) root m e = by root.file (find n root.inside) e (λ below. p
   by None (Some below) e h = h below e
 
 -- where no directory is there, no names are
-pub no_names : (names : List (List ℕ)) (root : Taken) (after : List ℕ) → is_directory_seen (seen_row (resolved names root)) ≡ false → NoneLater (has_name (λ q. kind_below q root) names) after
-no_names names root after e m h k = absurd (let x : has_name (λ q. kind_below q root) names m ≡ false = ap is_some (look_resolved (names ++ m ∷ []) root ∙ past_file names root m e) in let y = sym x ∙ h in cc)
+pub no_names : (names : List (List ℕ)) (root : Taken) (after : List ℕ) → is_directory_seen (seen_row (resolved names root)) ≡ false → NoneLater (has_entry_named (λ q. kind_below q root) names) after
+no_names names root after e m h k = absurd (let x : has_entry_named (λ q. kind_below q root) names m ≡ false = ap is_some (look_resolved (names ++ m ∷ []) root ∙ past_file names root m e) in let y = sym x ∙ h in cc)
 
 pub page_alike : (x y : List ℕ → Bool) (room : ℕ) (after : List ℕ) (page : List (List ℕ)) → ((m : List ℕ) → x m ≡ y m) → IsPage x room after page → IsPage y room after page
 page_alike x y room after page h = let e : x ≡ y = (λ i. λ m. h m i) in let Q : (List ℕ → Bool) → Type 0 = λ t. IsPage t room after page in subst Q e

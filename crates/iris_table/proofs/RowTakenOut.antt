@@ -16,7 +16,7 @@ use Rattle.iris_table.specs.declared.rows.Stop.{Stop}
 use Rattle.iris_table.specs.declared.rows.Stop.TheVariants.{Standing, Absent, Barred}
 use Rattle.iris_rows.specs.Changes.{seen_row, seen_file, gone, thrown, removed, row_moved, emptied, trash_name, reclaimed, retrashed}
 use Rattle.iris_rows.specs.FileChanges.{freed}
-use Rattle.iris_rows.specs.Places.{Kept, file_of}
+use Rattle.iris_rows.specs.Places.{StoredPlaces, file_of}
 use Rattle.iris_rows.specs.Items.{grown, kept_file, IsForest, IsForestTo, most_depth, table_over}
 use Rattle.iris_rows.specs.Rows.{File, Rows, End, Row, Table, Taken, Found, Here, Missing, Through, with_row, without_row, at, file_at, empty_file, on_file}
 use Rattle.iris_rows.specs.Sound.{IsDistinct}
@@ -187,7 +187,7 @@ reclaims_child visible (i ∷ j ∷ xs) new next age f h e = by i.file refl f.1.
   deep : 0 < j.depth
   deep = lt_of 0 j.depth h
 
-  by : (file : Option Kept) → i.file ≡ file → j.depth ≤ most_depth i file → table_over visible new next age ≡ reclaimed (table_over visible (i ∷ j ∷ xs) next age) (grown 0 (i ∷ j ∷ xs))
+  by : (file : Option StoredPlaces) → i.file ≡ file → j.depth ≤ most_depth i file → table_over visible new next age ≡ reclaimed (table_over visible (i ∷ j ∷ xs) next age) (grown 0 (i ∷ j ∷ xs))
   by (Some f') g l = absurd (omega (arith, f.0, deep))
   by None g l =
       let one : j.depth ≡ 1 = omega (arith, f.0, deep) in
@@ -235,7 +235,7 @@ set_parts [] k v h = absurd (omega arith)
 set_parts (x ∷ xs) zero v h = refl
 set_parts (x ∷ xs) (suc k) v h = let e : suc k + 1 ≡ suc (k + 1) = omega arith in ap (λ z. x ∷ z) (set_parts xs k v (omega arith)) ∙ ap (λ j. x ∷ (take k xs ++ (v ∷ drop j (x ∷ xs)))) (sym e)
 
-most_alike : (i j : Item) (f g : Option Kept) → j.depth ≡ i.depth → is_some g ≡ is_some f → most_depth j g ≡ most_depth i f
+most_alike : (i j : Item) (f g : Option StoredPlaces) → j.depth ≡ i.depth → is_some g ≡ is_some f → most_depth j g ≡ most_depth i f
 most_alike i j None None d e = ap (λ k. k + 1) d
 most_alike i j None (Some g) d e = absurd (cc)
 most_alike i j (Some f) None d e = absurd (cc)
@@ -279,7 +279,7 @@ module _ (old new before trash : List Item) (names : List (List ℕ)) (there : i
   pub gone_ok : grown 0 new ≡ at (parent names) (without_row (last names)) (grown 0 old)
   gone_ok = let r = there_row (met_in old names) there in (gone_is (table_over old before 0 0) names (met_in old names) r.0 (table_over new trash 0 1) r.1 (removes 0 0)).0
 
-  pub emptied_ok : (id : ℕ) (after run : List Item) (file : Kept) → run_row run ≡ record { id = id; file = Some (file_of file); inside = End } → file_of file ≡ empty_file → grown 0 after ≡ at (parent names) (with_row (last names) (run_row run)) (grown 0 new) → (age : ℕ)
+  pub emptied_ok : (id : ℕ) (after run : List Item) (file : StoredPlaces) → run_row run ≡ record { id = id; file = Some (file_of file); inside = End } → file_of file ≡ empty_file → grown 0 after ≡ at (parent names) (with_row (last names) (run_row run)) (grown 0 new) → (age : ℕ)
       → table_over after trash (id + 1) (age + 1) ≡ emptied names (table_over old before id age) (met_in old names)
   emptied_ok id after run file r e g age =
       let x = there_row (met_in old names) there in
@@ -292,7 +292,7 @@ pub filed_ok : (items : List Item) (names : List (List ℕ)) (place : ℕ) (chan
 filed_ok items names place change i j h s l e f = let Q : Item → Type 0 = λ z. IsFiled change z j in rows_filed items names place change i j h s e (subst Q (sym e) f) (set items place j) (set_parts items place j l)
 
 pub counter_ok : (items : List Item) (names : List (List ℕ)) (place : ℕ) (i : Item) (most : ℕ) → 0 < length names → Standing place ≡ stop 0 names items → place < length items → i ≡ get_or items place i
-    → ((file : File) → file_met (met_in items names) ≡ Some file → file.counter < most) → (file : Kept) → (get_or items place i).file ≡ Some file → file.counter < most
+    → ((file : File) → file_met (met_in items names) ≡ Some file → file.counter < most) → (file : StoredPlaces) → (get_or items place i).file ≡ Some file → file.counter < most
 counter_ok items names place i most h s l e f file g = f (file_of file) (ap file_met (met_standing items names place i h s e l) ∙ ap (λ z. kept_file z.file) e ∙ ap kept_file g)
 
 pub forest_filed : (items : List Item) (place : ℕ) (i j : Item) → place < length items → i ≡ get_or items place i → j.depth ≡ (get_or items place i).depth → is_some j.file ≡ is_some (get_or items place i).file → IsForest items → IsForest (set items place j)

@@ -15,7 +15,7 @@ use Rattle.iris_rows.specs.Sound.{AreGood, IsSound, IsCounted, OnFile}
 use Rattle.iris_rows.specs.declared.item.Item.{Item}
 use Rattle.iris_rows.specs.Items.{grown, kept_file, IsForest}
 use Rattle.iris_table.specs.Stops.{file_met, met_in}
-use Rattle.iris_table.specs.Served.{State, table_in, AreForests, IsWhole}
+use Rattle.iris_table.specs.Served.{State, table_in, AreForests, IsServedWhole}
 use Rattle.iris_table.specs.Replies.{Told, is_left}
 use Rattle.iris_rows.proofs.ViewByPath.{look_resolved, kind_found}
 use Rattle.iris_rows.proofs.ViewOfStep.{places, verdict_same}
@@ -79,6 +79,6 @@ pub told_plain : (t : Table) (request : Request) (reply : Reply) → AreGood t.v
 told_plain t request reply g h = let P : Option PlainError → Type 0 = λ v. Judged v (Accepted (view t).files request reply) reply in subst P (verdict_same t request g) h
 
 -- what a request leaves is whole
-pub whole_after : (r : Result Reply NoMemory) (old new : State) (request : Request) → IsWhole old → OnOk r (table_in new ≡ stepped (table_in old) request) → OnErr r (new ≡ old) → AreForests new → IsWhole new
+pub whole_after : (r : Result Reply NoMemory) (old new : State) (request : Request) → IsServedWhole old → OnOk r (table_in new ≡ stepped (table_in old) request) → OnErr r (new ≡ old) → AreForests new → IsServedWhole new
 whole_after (Ok x) old new request w e f a = record { forests = a; sound = subst IsSound (sym e) (sound_kept (table_in old) request w.sound) }
-whole_after (Err x) old new request w e f a = subst IsWhole (sym f) w
+whole_after (Err x) old new request w e f a = subst IsServedWhole (sym f) w

@@ -6,7 +6,7 @@ use Rattle.std.specs.Str.{bytes_eq}
 use Rattle.iris_rows.specs.declared.item.Item.{Item}
 use Rattle.iris_table.specs.declared.rows.Stop.{Stop}
 use Rattle.iris_table.specs.declared.rows.Stop.TheVariants.{Standing, Absent, Barred}
-use Rattle.iris_rows.specs.Places.{Kept}
+use Rattle.iris_rows.specs.Places.{StoredPlaces}
 use Rattle.iris_table.specs.Stops.{stop, later, passed}
 use Rattle.iris_rows.proofs.GrownRows.{lt_true, lt_false}
 
@@ -26,11 +26,11 @@ moved_later k (Standing j) = ap Standing (omega arith)
 moved_later k Absent = refl
 moved_later k Barred = refl
 
-at_file : (n : List ℕ) (ns : List (List ℕ)) (file : Option Kept) (s : Stop) → is_some file ≡ true → passed (n ∷ ns) file s ≡ Barred
+at_file : (n : List ℕ) (ns : List (List ℕ)) (file : Option StoredPlaces) (s : Stop) → is_some file ≡ true → passed (n ∷ ns) file s ≡ Barred
 at_file n ns None s e = absurd (cc)
 at_file n ns (Some f) s e = refl
 
-at_directory : (n : List ℕ) (ns : List (List ℕ)) (file : Option Kept) (s : Stop) → is_some file ≡ false → passed (n ∷ ns) file s ≡ s
+at_directory : (n : List ℕ) (ns : List (List ℕ)) (file : Option StoredPlaces) (s : Stop) → is_some file ≡ false → passed (n ∷ ns) file s ≡ s
 at_directory n ns None s e = refl
 at_directory n ns (Some f) s e = absurd (cc)
 

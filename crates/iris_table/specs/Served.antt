@@ -23,7 +23,7 @@ pub record AreForests (s : State) : Type 0 where
   pub trash : IsForest s.trash
 
 -- both lists are in preorder, and requests make such a table
-pub record IsWhole (s : State) : Type 0 where
+pub record IsServedWhole (s : State) : Type 0 where
   pub forests : AreForests s
   pub sound : IsSound (table_in s)
 

@@ -5,7 +5,7 @@ use Rattle.iris_plain.specs.Routes.{is_name_before}
 use Rattle.iris_rows.specs.declared.item.Item.{Item}
 use Rattle.iris_table.specs.declared.rows.Stop.{Stop}
 use Rattle.iris_table.specs.declared.rows.Stop.TheVariants.{Standing, Absent, Barred}
-use Rattle.iris_rows.specs.Places.{Kept}
+use Rattle.iris_rows.specs.Places.{StoredPlaces}
 use Rattle.iris_rows.specs.Items.{grown, kept_file, IsForestTo}
 use Rattle.iris_rows.specs.Rows.{File, Rows, End, Taken, Found, Here, Missing, Through, resolved, on_file, find}
 use Rattle.iris_rows.specs.FileChanges.{count_written, freed}
@@ -32,7 +32,7 @@ later Absent = Absent
 later Barred = Barred
 
 -- resolving ends at a row by the last name, and goes on only through a directory
-abbrev pub passed : List (List ℕ) → Option Kept → Stop → Stop
+abbrev pub passed : List (List ℕ) → Option StoredPlaces → Stop → Stop
 passed [] file onward = Standing 0
 passed (n ∷ ns) (Some f) onward = Barred
 passed (n ∷ ns) None onward = onward

@@ -7,7 +7,7 @@ ghost use Rattle.iris_rows.specs.Rows.{File, End, with_row, at, file_at, empty_f
 ghost use Rattle.iris_rows.specs.FileChanges.{file_written, cut};
 ghost use Rattle.iris_rows.specs.Changes.{removed, row_moved, emptied, seen_row};
 ghost use Rattle.iris_rows.specs.Items.{grown, kept_file, IsForest, table_over};
-ghost use Rattle.iris_rows.specs.Places.{Kept, file_of};
+ghost use Rattle.iris_rows.specs.Places.{StoredPlaces, file_of};
 ghost use Rattle.iris_rows.specs.Sound.{IsDistinct};
 ghost use Rattle.iris_table.specs.Stops.{met_in, file_met, IsFiled};
 
@@ -143,7 +143,7 @@ pub fn write_at(
 fn write_item(alloc: Global, item: &mut Item, offset: u64, bytes: &[u8]) -> Result<(), NoMemory>
     requires some { 0 < length bytes.now }
     requires room { offset + length bytes.now ≤ 268435456 }
-    requires counter { (file : Kept) → item.old.file ≡ Some file → file.counter < 2 ^ 63 }
+    requires counter { (file : StoredPlaces) → item.old.file ≡ Some file → file.counter < 2 ^ 63 }
     ensures ok { OnOk result (IsFiled (file_written offset bytes.now) item.old item.new) }
     ensures depth { item.new.depth ≡ item.old.depth }
     ensures kind { is_some item.new.file ≡ is_some item.old.file }
@@ -179,7 +179,7 @@ pub fn resize_at(
 // Gives the file of a row another length.
 fn resize_item(alloc: Global, item: &mut Item, size: u64) -> Result<(), NoMemory>
     requires room { size ≤ 268435456 }
-    requires counter { (file : Kept) → item.old.file ≡ Some file → file.counter < 2 ^ 63 }
+    requires counter { (file : StoredPlaces) → item.old.file ≡ Some file → file.counter < 2 ^ 63 }
     ensures ok { OnOk result (IsFiled (cut size) item.old item.new) }
     ensures depth { item.new.depth ≡ item.old.depth }
     ensures kind { is_some item.new.file ≡ is_some item.old.file }

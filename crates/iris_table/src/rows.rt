@@ -4,7 +4,7 @@ ghost use Rattle.std.specs.Prelude.{◌≡◌, ◌≤◌, ◌<◌, ◌+◌, leng
 ghost use Rattle.iris_table.specs.Stops.{root_of, met_in, file_met, stop, deeper, run_length, room, first_inside, is_name_of, IsStopWithin};
 ghost use Rattle.iris_rows.specs.View.{kind_below};
 ghost use Rattle.iris_plain.specs.Pages.{NoneLater, IsNext, IsPage};
-ghost use Rattle.iris_plain.specs.Steps.{has_name};
+ghost use Rattle.iris_plain.specs.Steps.{has_entry_named};
 ghost use Rattle.iris_rows.specs.Places.{file_of};
 ghost use Rattle.iris_rows.specs.Changes.{seen_row, seen_file};
 ghost use Rattle.iris_rows.specs.Items.{grown, kept_file};
@@ -161,7 +161,7 @@ fn next_name<'a>(items: &'a [Item], depth: usize, after: &Text) -> Option<&'a Te
 
 /// A page of the names of a directory that are greater than another, up to 64. Where no directory is there, no names.
 pub fn page(alloc: Global, items: &[Item], names: &[Text], after: &Text) -> Result<Texts, NoMemory>
-    ensures { IfOk result (λ page. IsPage (has_name (λ path. kind_below path (root_of items.now)) names.now) 64 after.now page) }
+    ensures { IfOk result (λ page. IsPage (has_entry_named (λ path. kind_below path (root_of items.now)) names.now) 64 after.now page) }
 {
     match seen(items, names) {
         Seen::ADirectory => page_of(alloc, &items[begin(items, names)..], names.len(), after),

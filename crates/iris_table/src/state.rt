@@ -10,7 +10,7 @@ ghost use Rattle.iris_rows.specs.Changes.{made, seen_in, stepped, table_verdict}
 ghost use Rattle.iris_plain.specs.Steps.{by_names};
 ghost use Rattle.iris_records.specs.Challenges.{table_walk, IsProbed};
 ghost use Rattle.iris_rows.specs.Items.{kept_file};
-ghost use Rattle.iris_table.specs.Served.{State, table_in, AreForests, IsWhole};
+ghost use Rattle.iris_table.specs.Served.{State, table_in, AreForests, IsServedWhole};
 ghost use Rattle.iris_records.specs.Records.{AreLive, root_hash};
 ghost use Rattle.iris_table.specs.Replies.{Told, is_left};
 
@@ -53,7 +53,7 @@ impl State {
     /// No rows.
     pub fn new(alloc: Global) -> State
         ensures table { table_in result ≡ empty_table }
-        ensures whole { IsWhole result }
+        ensures whole { IsServedWhole result }
     {
         State {
             visible: Vec::new(alloc),
@@ -65,7 +65,7 @@ impl State {
 
     /// The records of all live names.
     pub fn records_of(&self, alloc: Global, keys: &Keys) -> Result<Vec<(Name, Bytes)>, NoMemory>
-        requires { IsWhole self.now }
+        requires { IsServedWhole self.now }
         ensures { IfOk result (λ records. AreLive keys.now (table_in self.now) records.items) }
     {
         records_of(alloc, keys, self.visible.as_slice(), self.trash.as_slice())
@@ -73,7 +73,7 @@ impl State {
 
     /// The root hash.
     pub fn root_of(&self, alloc: Global, keys: &Keys) -> Result<Hash32, NoMemory>
-        requires { IsWhole self.now }
+        requires { IsServedWhole self.now }
         ensures { IfOk result (λ hash. hash.0 ≡ root_hash keys.now.order (table_in self.now)) }
     {
         root_of(
@@ -87,7 +87,7 @@ impl State {
 
     /// The block at a place of the walk over all blocks.
     pub fn probe(&self, at: u64) -> Reply
-        requires { IsWhole self.now }
+        requires { IsServedWhole self.now }
         ensures { (order : List ℕ) → IsProbed (table_in self.now) (slice_get (table_walk order (table_in self.now)) at) result }
     {
         probe(self.visible.as_slice(), self.trash.as_slice(), at)
@@ -123,7 +123,7 @@ impl State {
         path: &Text,
         file: Option<FileRow>,
     ) -> Result<Reply, NoMemory>
-        requires { IsWhole self.old }
+        requires { IsServedWhole self.old }
         ensures reply { IfOk result (λ reply. Told (table_in self.old) (Mkdir path.now) reply) }
         ensures step { OnOk result (table_in self.new ≡ (if is_none (table_verdict (table_in self.old) (Mkdir path.now))
             then by_names (table_in self.old) (names_of path.now) (λ names. made (kept_file file) names (table_in self.old)) else table_in self.old)) }
@@ -151,7 +151,7 @@ impl State {
         offset: u64,
         bytes: &Bytes,
     ) -> Result<Reply, NoMemory>
-        requires { IsWhole self.old }
+        requires { IsServedWhole self.old }
         ensures reply { IfOk result (λ reply. Told (table_in self.old) (Write path.now offset bytes.now) reply) }
         ensures step { OnOk result (table_in self.new ≡ stepped (table_in self.old) (Write path.now offset bytes.now)) }
         ensures err { OnErr result (self.new ≡ self.old) }
@@ -203,7 +203,7 @@ impl State {
 
     /// A new length of the file at the path of a text.
     pub fn resize(&mut self, alloc: Global, path: &Text, size: u64) -> Result<Reply, NoMemory>
-        requires { IsWhole self.old }
+        requires { IsServedWhole self.old }
         ensures reply { IfOk result (λ reply. Told (table_in self.old) (Resize path.now size) reply) }
         ensures step { OnOk result (table_in self.new ≡ stepped (table_in self.old) (Resize path.now size)) }
         ensures err { OnErr result (self.new ≡ self.old) }
@@ -241,7 +241,7 @@ impl State {
 
     /// The kind and the length of what stands at the path of a text.
     pub fn stat(&self, alloc: Global, path: &Text) -> Result<Reply, NoMemory>
-        requires { IsWhole self.now }
+        requires { IsServedWhole self.now }
         ensures { IfOk result (λ reply. Told (table_in self.now) (Stat path.now) reply) }
     {
         let Some(path) = read_path(alloc, path)? else {
@@ -273,7 +273,7 @@ impl State {
 
     /// Takes what stands at the path of one text to that of another.
     pub fn rename(&mut self, alloc: Global, from: &Text, to: &Text) -> Result<Reply, NoMemory>
-        requires { IsWhole self.old }
+        requires { IsServedWhole self.old }
         ensures reply { IfOk result (λ reply. Told (table_in self.old) (Rename from.now to.now) reply) }
         ensures step { OnOk result (table_in self.new ≡ stepped (table_in self.old) (Rename from.now to.now)) }
         ensures err { OnErr result (self.new ≡ self.old) }
@@ -303,7 +303,7 @@ impl State {
 
     /// Takes what stands at the path of a text into the trash.
     pub fn remove(&mut self, alloc: Global, path: &Text) -> Result<Reply, NoMemory>
-        requires { IsWhole self.old }
+        requires { IsServedWhole self.old }
         ensures reply { IfOk result (λ reply. Told (table_in self.old) (Remove path.now) reply) }
         ensures step { OnOk result (table_in self.new ≡ stepped (table_in self.old) (Remove path.now)) }
         ensures err { OnErr result (self.new ≡ self.old) }
@@ -323,7 +323,7 @@ impl State {
 
     /// One step on the trash.
     pub fn reclaim(&mut self, alloc: Global) -> Result<Reply, NoMemory>
-        requires { IsWhole self.old }
+        requires { IsServedWhole self.old }
         ensures reply { IfOk result (λ reply. reply ≡ Reclaimed (is_left (table_in self.new).trash)) }
         ensures step { OnOk result (table_in self.new ≡ stepped (table_in self.old) Reclaim) }
         ensures err { OnErr result (self.new ≡ self.old) }

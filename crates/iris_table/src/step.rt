@@ -3,7 +3,7 @@
 ghost use Rattle.std.specs.Prelude.{◌≡◌, ℕ, List, OnOk, OnErr, IfOk};
 ghost use Rattle.iris_rows.specs.Rows.{empty_table};
 ghost use Rattle.iris_rows.specs.Changes.{stepped};
-ghost use Rattle.iris_table.specs.Served.{served_table, table_in, AreForests, IsWhole};
+ghost use Rattle.iris_table.specs.Served.{served_table, table_in, AreForests, IsServedWhole};
 ghost use Rattle.iris_records.specs.Records.{AreLive, root_hash};
 ghost use Rattle.iris_table.specs.Replies.{TableReplies};
 
@@ -22,13 +22,13 @@ pub struct Table {
 }
 
 impl Model for Table {
-    ghost use Rattle.iris_table.specs.Served.{Served, IsWhole};
+    ghost use Rattle.iris_table.specs.Served.{Served, IsServedWhole};
 
     ghost Value = { Served };
 
     ghost view = { λ t. record { keys = t.keys; visible = t.state.visible; trash = t.state.trash; next = t.state.next; age = t.state.age } };
 
-    ghost invariant = { λ t. IsWhole t.state };
+    ghost invariant = { λ t. IsServedWhole t.state };
 }
 
 // The reply to a request over rows, and the next rows.
@@ -38,7 +38,7 @@ fn serve(
     state: &mut State,
     request: &Request,
 ) -> Result<Reply, NoMemory>
-    requires whole { IsWhole state.old }
+    requires whole { IsServedWhole state.old }
     ensures reply { IfOk result (λ reply. TableReplies keys.now.order (table_in state.old) request.now reply) }
     ensures step { OnOk result (table_in state.new ≡ stepped (table_in state.old) request.now) }
     ensures err { OnErr result (state.new ≡ state.old) }

@@ -22,7 +22,7 @@ use Rattle.iris_cache.specs.declared.draft.Change.{Change}
 use Rattle.iris_cache.specs.Resident.{Resident, held_node}
 use Rattle.iris_cache.specs.Drafted.{Drafted, drafted, known, seen, known_by, there_by}
 use Rattle.iris_cache.specs.Pictures.{IsLike, Holds, LinkHolds, BodyHolds, parent_after}
-use Rattle.iris_treepaths.specs.Counts.{count_of, lead_count, said_count, counted_lead, with_blocks, counted_link, counted_body, counted_entry, counted_node, IsCounted, Recounts}
+use Rattle.iris_treepaths.specs.Counts.{count_of, lead_count, said_count, counted_lead, with_blocks, counted_link, counted_body, counted_entry, counted_node, HasChildCount, Recounts}
 use Rattle.iris_treepaths.specs.Hands.{Holding, IsBelowHand, IsOut}
 use Rattle.iris_treepaths.specs.Lags.{Lags, IsUpFrom}
 use Rattle.iris_treepaths.specs.Planted.{IsOver, next, far}
@@ -165,7 +165,7 @@ module _ (old new made : Shown) (hand : Option Row) (at p : Name) (d e : Drafted
       lags.counts p at parent (inl refl) ∙ ap (λ k. option_map (with_blocks at k) (said (new p))) count-is
       ∙ ap (option_map (with_blocks at count)) (like_said (new p) was.0 (lags.above p was.0 was.1 (next p at parent))) ∙ ap Some (sym (node_counted at count was.0)))
 
-  says : IsCounted at p d c → said (made p) ≡ said (new p)
+  says : HasChildCount at p d c → said (made p) ≡ said (new p)
   says right =
       like_said (made p) (counted_node at count was.0) up-like ∙ ap (λ k. Some (local_of k)) (right child.0 was.0 child.1 few was.1)
       ∙ sym (like_said (new p) was.0 (lags.above p was.0 was.1 (next p at parent)))
@@ -248,7 +248,7 @@ module _ (old new made : Shown) (hand : Option Row) (at p : Name) (d e : Drafted
 
 -- where the parent has the child's count already, it says in the new table what it said
 pub right_said : (old new made : Shown) (hand : Option Row) (at p : Name) (d e : Drafted) (c : Resident) → IsTree made → IsCountable made → Lags old new made hand at d c → IsParent made p at
-    → IsSome (seen d c p) → Recounts at p d e c → IsCounted at p d c → said (made p) ≡ said (new p)
+    → IsSome (seen d c p) → Recounts at p d e c → HasChildCount at p d c → said (made p) ≡ said (new p)
 right_said old new made hand at p d e c tree countable lags parent sees step right = says old new made hand at p d e c tree countable lags parent sees step right
 
 -- counts lag no more above the parent

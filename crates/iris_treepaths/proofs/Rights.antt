@@ -15,7 +15,7 @@ use Rattle.iris_cache.specs.Drafted.{Drafted, seen}
 use Rattle.iris_cache.specs.Pictures.{parent_after}
 use Rattle.iris_cache.proofs.Rising.{above-none, or-split}
 use Rattle.iris_cache.proofs.Ways.{over-met}
-use Rattle.iris_treepaths.specs.Counts.{count_of, with_blocks, counted_lead, IsCounted, Recounts}
+use Rattle.iris_treepaths.specs.Counts.{count_of, with_blocks, counted_lead, HasChildCount, Recounts}
 use Rattle.iris_treepaths.specs.Hands.{Holding}
 use Rattle.iris_treepaths.specs.Lags.{Lags, IsUpFrom}
 use Rattle.iris_treepaths.specs.Planted.{IsOver, next, far}
@@ -176,7 +176,7 @@ pub right_above : (old new made : Shown) (hand : Option Row) (p : Name) (e : Dra
 right_above old new made hand p e c is made_is lags same = right old new made hand p e c is made_is lags same
 
 -- the way up ends where the parent has the child's count already
-pub stops : (d : Drafted) (c : Resident) (start : Name) (most k : ℕ) (e f : Drafted) (at p : Name) → Climbing d c start most k e at → parent_after e c at ≡ Some p → IsSome (seen e c p) → Recounts at p e f c → IsCounted at p e c
+pub stops : (d : Drafted) (c : Resident) (start : Name) (most k : ℕ) (e f : Drafted) (at p : Name) → Climbing d c start most k e at → parent_after e c at ≡ Some p → IsSome (seen e c p) → Recounts at p e f c → HasChildCount at p e c
     → (old new made : Shown) (hand : Option Row) → IsTree new → IsTree made → IsCountable made → Lags old new made hand start d c → Holding old made hand f c
 stops d c start most k e f at p so up sees step right old new made hand is made_is countable lags =
     let x = (so.lags old new made hand made_is countable lags).0 in

@@ -9,7 +9,7 @@ use Rattle.iris_node.specs.Trees.{Shown, IsParent, IsAbove, node_name}
 use Rattle.iris_node.specs.Unfolded.{Unfolded, id_of}
 use Rattle.iris_shape.specs.Treap.{Treap, Empty, Over, rows}
 use Rattle.iris_cache.specs.Pictures.{IsLike}
-use Rattle.iris_treepaths.specs.Planted.{Likes, Hang, IsSubtreap, Stays, IsOver, next}
+use Rattle.iris_treepaths.specs.Planted.{Likes, Hang, IsSubtreap, StaysBelow, IsOver, next}
 use Rattle.iris_treepaths.specs.Rows.{Row, Content, Directory, File, row_entry, entry_of, unfolded_rows, below_row, has_id}
 use Rattle.iris_treepaths.specs.Ways.{Any}
 use Rattle.iris_treepaths.proofs.Likes.{Placed, entry_named, above_less, above_more, top_parent}
@@ -141,7 +141,7 @@ abbrev StaysHere : (Name → Option Node) → Treap Row → Treap Row → Type 0
 StaysHere s t Empty = Unit {0}
 StaysHere s t (Over y l m) = s (name.Entry (id_of y.id)) ≡ None → IsSubtreap (Over y l m) t
 
-pub stays_at : (s : Name → Option Node) (t w v : Treap Row) → Stays s t w → IsSubtreap v w → StaysHere s t v
+pub stays_at : (s : Name → Option Node) (t w v : Treap Row) → StaysBelow s t w → IsSubtreap v w → StaysHere s t v
 stays_at s t Empty v p h = absurd h
 stays_at s t (Over y l m) v p (inl e) = subst (StaysHere s t) (sym e) p.0
 stays_at s t (Over y l m) v p (inr (inl h)) = stays_at s t l v p.1 h

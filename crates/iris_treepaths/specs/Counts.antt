@@ -75,5 +75,5 @@ pub record Recounts (child parent : Name) (d e : Drafted) (c : Resident) : Type 
   pub entries : (n : Name) → (IsEntryName n → ⊥) → drafted e n ≡ drafted d n
 
 -- the parent's node has the count of the child already
-abbrev pub IsCounted : Name → Name → Drafted → Resident → Type 0
-IsCounted child parent d c = (k node : Node) → seen d c child ≡ Some k → said_count (local_of k) < 2 ^ 64 → seen d c parent ≡ Some node → counted_node child (said_count (local_of k)) node ≡ node
+abbrev pub HasChildCount : Name → Name → Drafted → Resident → Type 0
+HasChildCount child parent d c = (k node : Node) → seen d c child ≡ Some k → said_count (local_of k) < 2 ^ 64 → seen d c parent ≡ Some node → counted_node child (said_count (local_of k)) node ≡ node

@@ -49,9 +49,9 @@ IsSubtreap v Empty = ⊥
 IsSubtreap v (Over y l m) = (v ≡ Over y l m) ⊎ (IsSubtreap v l ⊎ IsSubtreap v m)
 
 -- a row of the second treap that isn't seen stands over what it stood over in the first
-abbrev pub Stays : (Name → Option Node) → Treap Row → Treap Row → Type 0
-Stays s t Empty = Unit {0}
-Stays s t (Over y l m) = (s (name.Entry (id_of y.id)) ≡ None → IsSubtreap (Over y l m) t) × Stays s t l × Stays s t m
+abbrev pub StaysBelow : (Name → Option Node) → Treap Row → Treap Row → Type 0
+StaysBelow s t Empty = Unit {0}
+StaysBelow s t (Over y l m) = (s (name.Entry (id_of y.id)) ≡ None → IsSubtreap (Over y l m) t) × StaysBelow s t l × StaysBelow s t m
 
 -- Of the treap t of a directory's rows a draft made the treap u, and its entry leads to it.
 pub record Planted (old : Shown) (dir : FileId) (t u : Treap Row) (d e : Drafted) (c : Resident) : Type 0 where
@@ -60,7 +60,7 @@ pub record Planted (old : Shown) (dir : FileId) (t u : Treap Row) (d e : Drafted
   pub entry : (x : EntryFields) → seen d c (name.Entry dir) ≡ Some (node.Entry x) → drafted e (name.Entry dir) ≡ Some (set_to (parent_after d c (name.Entry dir)) (node.Entry (with_top top x)))
   pub likes : Likes (seen e c) u
   pub hang : Hang (seen e c) (parent_after e c) (name.Entry dir) u
-  pub stays : Stays (seen e c) t u
+  pub stays : StaysBelow (seen e c) t u
   -- a hash that a row's node or the directory's holds of another node was its true one before, or is the one that its resident parent holds
   pub hashes : (n m : Name) (node : Node) (h : Hash32) → IsRowName (rows u) n ⊎ (n ≡ name.Entry dir) → seen e c n ≡ Some node → Holds node m h → WasHash old c m h
   -- nothing else is changed

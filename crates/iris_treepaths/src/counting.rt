@@ -6,7 +6,7 @@ ghost use Rattle.iris_node.specs.Local.{local_of};
 ghost use Rattle.iris_node.specs.Trees.{IsTree, Shown};
 ghost use Rattle.iris_cache.specs.Drafted.{drafted, seen};
 ghost use Rattle.iris_cache.specs.Pictures.{parent_after};
-ghost use Rattle.iris_treepaths.specs.Counts.{counted_body, counted_entry, counted_link, said_count, IsCounted, IsEntryName, Recounts};
+ghost use Rattle.iris_treepaths.specs.Counts.{counted_body, counted_entry, counted_link, said_count, HasChildCount, IsEntryName, Recounts};
 ghost use Rattle.iris_treepaths.specs.Hands.{Holding};
 ghost use Rattle.iris_treepaths.specs.Lags.{Lags};
 ghost use Rattle.iris_treepaths.specs.Rows.{IsCountable, Row};
@@ -91,7 +91,7 @@ fn recount_one(
     parent: &Name,
 ) -> Result<bool, NoMemory>
     ensures counts { OnOk result (Recounts child.now parent.now draft.old draft.new cache.now) }
-    ensures right { IfOk result (λ wrong. wrong ≡ false → IsCounted child.now parent.now draft.old cache.now) }
+    ensures right { IfOk result (λ wrong. wrong ≡ false → HasChildCount child.now parent.now draft.old cache.now) }
 {
     draft.sound();
     cache.sound();

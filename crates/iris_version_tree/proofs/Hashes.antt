@@ -22,8 +22,8 @@ use Rattle.iris_shape.specs.Folds.{Fold, One, Two, folded}
 use Rattle.iris_shape.specs.Sides.{unfolded_side, part_of}
 use Rattle.iris_cache.specs.declared.held.Held.{Held}
 use Rattle.iris_cache.specs.declared.draft.Change.{Change}
-use Rattle.iris_cache.specs.Rehash.{low_part, high_part, whole_part}
-use Rattle.iris_cache.specs.Resident.{Resident, held_node, parent_in, IsSound}
+use Rattle.iris_cache.specs.Rehash.{low_part, high_part, top_part}
+use Rattle.iris_cache.specs.Resident.{Resident, held_node, parent_in, IsSoundCache}
 use Rattle.iris_cache.specs.Drafted.{Drafted, drafted, seen, known_by, there_by, IsDraft}
 use Rattle.iris_node.specs.Trees.{Shown}
 use Rattle.iris_cache.specs.Pictures.{Pictures, IsLike, Holds, SideHolds, BodyHolds, IsHeldHash, WasHash}
@@ -35,12 +35,12 @@ use Rattle.iris_version_tree.proofs.Tables.{LikePart, part_like, never_entry, li
 
 -- ---- a node stands under its own name
 
-own_by : (d : Drafted) (c : Resident) (n : Name) (k : Node) (o : Option Change) (w : Option Held) → IsDraft d → IsSound c → drafted d n ≡ o → held_node c n ≡ w → there_by (known_by o w) ≡ Some k → name_of k ≡ n
+own_by : (d : Drafted) (c : Resident) (n : Name) (k : Node) (o : Option Change) (w : Option Held) → IsDraft d → IsSoundCache c → drafted d n ≡ o → held_node c n ≡ w → there_by (known_by o w) ≡ Some k → name_of k ≡ n
 own_by d c n k (Some x) w ds cs de he e = ds.own n x k de e
 own_by d c n k None (Some h) ds cs de he e = let q : h.node ≡ k = cc in sym (ap name_of q) ∙ cs.own n h he
 own_by d c n k None None ds cs de he e = cc
 
-pub seen_own : (d : Drafted) (c : Resident) (n : Name) (k : Node) → IsDraft d → IsSound c → seen d c n ≡ Some k → name_of k ≡ n
+pub seen_own : (d : Drafted) (c : Resident) (n : Name) (k : Node) → IsDraft d → IsSoundCache c → seen d c n ≡ Some k → name_of k ≡ n
 seen_own d c n k ds cs e = own_by d c n k (drafted d n) (held_node c n) ds cs refl refl e
 
 -- ---- the hash that the cache holds of a part
@@ -59,11 +59,11 @@ top_entry : (file : FileId) (g : Fold) (e : EntryFields) (b : Body) (id : ℕ) (
 top_entry file g e (Dir top) id label less more size counter kept like = cc
 top_entry file g e (File n k s) id label less more size counter kept like = (s, refl)
 
-body_holds : (b : Body) (s : Side) (id : FileId) (x : Hash32) → side_of_body b ≡ Some s → s ≡ Below x → BodyHolds id b (whole_part id) x
+body_holds : (b : Body) (s : Side) (id : FileId) (x : Hash32) → side_of_body b ≡ Some s → s ≡ Below x → BodyHolds id b (top_part id) x
 body_holds (Dir top) s id x is e = cc
 body_holds (File n k versions) s id x is e =
     let q : versions ≡ Below x = cc in
-    let P : Side → Type 0 = λ s. SideHolds (whole_part id) s (whole_part id) x in
+    let P : Side → Type 0 = λ s. SideHolds (top_part id) s (top_part id) x in
     subst P (sym q) (refl, refl)
 
 top_holds : (file : FileId) (g : Fold) (o : Option Unfolded) (k : Node) → IsFileOf file.0 (unfolded_side file.0 16 0 g) o → IsLike o k → IsTwo g → HoldsPart file 16 0 k
@@ -188,7 +188,7 @@ entry_id (name.Entry id) = id
 entry_id (name.Part f l i) = f
 entry_id (name.Block f p) = f
 
-pub entry_own : (d : Drafted) (c : Resident) (file : FileId) (e : EntryFields) → IsDraft d → IsSound c → seen d c (name.Entry file) ≡ Some (node.Entry e) → e.id ≡ file
+pub entry_own : (d : Drafted) (c : Resident) (file : FileId) (e : EntryFields) → IsDraft d → IsSoundCache c → seen d c (name.Entry file) ≡ Some (node.Entry e) → e.id ≡ file
 unfolding entry_id
 entry_own d c file e ds cs at = ap entry_id (seen_own d c (name.Entry file) (node.Entry e) ds cs at)
 
@@ -210,5 +210,5 @@ part_own_by n (Some p) None e own = cc
 part_own_by n (Some p) (Some (node.Entry x)) e own = cc
 part_own_by n (Some p) (Some (node.Part x)) e own = let q : p ≡ x = cc in ap (λ y. name_of (node.Part y)) q ∙ own (node.Part x) refl
 
-pub part_own : (d : Drafted) (c : Resident) (n : Name) (r : Option PartFields) → IsDraft d → IsSound c → r ≡ part_seen (seen d c n) → IfSome r (λ p. name.Part p.file p.level p.index ≡ n)
+pub part_own : (d : Drafted) (c : Resident) (n : Name) (r : Option PartFields) → IsDraft d → IsSoundCache c → r ≡ part_seen (seen d c n) → IfSome r (λ p. name.Part p.file p.level p.index ≡ n)
 part_own d c n r ds cs e = part_own_by n r (seen d c n) e (λ k at. seen_own d c n k ds cs at)

@@ -16,7 +16,7 @@ use Rattle.iris_node.specs.Trees.{Shown}
 use Rattle.iris_version_tree.specs.Needs.{Covers}
 use Rattle.iris_version_tree.specs.Sides.{part_seen, AreHalvesOf, IsNeedOf}
 use Rattle.iris_version_tree.specs.Reached.{IsDirectlyOver, IsLinkedSide}
-use Rattle.iris_version_tree.specs.Ranges.{Within, IsPartWithin, Frame, AtPart, Under, IsKnownBelow, Missing, IsMissing, Joins, Turns}
+use Rattle.iris_version_tree.specs.Ranges.{Within, IsPartWithin, DifferWithin, AtPart, Under, IsKnownBelow, Missing, IsMissing, Joins, Turns}
 use Rattle.iris_version_tree.proofs.Levels.{pow-pos}
 use Rattle.iris_version_tree.proofs.Spans.{not_same, self, split, apart, up_low, up_high, down}
 use Rattle.iris_version_tree.proofs.Sets.{half_sides, half_reached}
@@ -42,7 +42,7 @@ known_same d e c n q = ap (λ o. known_by o (held_node c n)) q
 
 module _ (old : Shown) (d d1 d2 d3 : Drafted) (c : Resident) (file : FileId) (v w : ℕ → ℕ) (k i : ℕ) (s low high a b made : Side) where
   set_step : AreHalvesOf s (part_seen (seen d c (name.Part file (suc k) i))) low high → IsKnownBelow s (known d c (name.Part file (suc k) i))
-      → Turns old d d1 c file v w k (2 * i) low a → Frame d d1 file k (2 * i) → Turns old d1 d2 c file v w k (2 * i + 1) high b → Frame d1 d2 file k (2 * i + 1)
+      → Turns old d d1 c file v w k (2 * i) low a → DifferWithin d d1 file k (2 * i) → Turns old d1 d2 c file v w k (2 * i + 1) high b → DifferWithin d1 d2 file k (2 * i + 1)
       → Joins old d2 d3 c file v w (suc k) i s a b made → ((n : Name) → same_name (name.Part file (suc k) i) n ≡ false → drafted d3 n ≡ drafted d2 n)
       → Turns old d d3 c file v w (suc k) i s made
   set_step are there TA FA TB FB J F3 pic had u at =
@@ -75,8 +75,8 @@ module _ (old : Shown) (d d1 d2 d3 : Drafted) (c : Resident) (file : FileId) (v 
       )
 
 -- only what lies within the part differs
-frame_step : (d d1 d2 d3 : Drafted) (file : FileId) (k i : ℕ) → Frame d d1 file k (2 * i) → Frame d1 d2 file k (2 * i + 1)
-    → ((n : Name) → same_name (name.Part file (suc k) i) n ≡ false → drafted d3 n ≡ drafted d2 n) → Frame d d3 file (suc k) i
+frame_step : (d d1 d2 d3 : Drafted) (file : FileId) (k i : ℕ) → DifferWithin d d1 file k (2 * i) → DifferWithin d1 d2 file k (2 * i + 1)
+    → ((n : Name) → same_name (name.Part file (suc k) i) n ≡ false → drafted d3 n ≡ drafted d2 n) → DifferWithin d d3 file (suc k) i
 frame_step d d1 d2 d3 file k i FA FB F3 n out =
     F3 n (not_same (name.Part file (suc k) i) n (λ e. out (subst (IsPartWithin file (suc k) i) e (refl, self (suc k) i, omega arith))))
     ∙ FB n (λ q. out (up-high n q)) ∙ FA n (λ q. out (up-low n q))
@@ -94,7 +94,7 @@ frame_step d d1 d2 d3 file k i FA FB F3 n out =
 -- at a level that is one more
 pub set_level : (old : Shown) (d d1 d2 d3 : Drafted) (c : Resident) (file : FileId) (v w : ℕ → ℕ) (l k i : ℕ) (s low high a b made : Side) → l ≡ suc k
     → AreHalvesOf s (part_seen (seen d c (name.Part file l i))) low high → IsKnownBelow s (known d c (name.Part file l i))
-    → Turns old d d1 c file v w k (2 * i) low a → Frame d d1 file k (2 * i) → Turns old d1 d2 c file v w k (2 * i + 1) high b → Frame d1 d2 file k (2 * i + 1)
+    → Turns old d d1 c file v w k (2 * i) low a → DifferWithin d d1 file k (2 * i) → Turns old d1 d2 c file v w k (2 * i + 1) high b → DifferWithin d1 d2 file k (2 * i + 1)
     → Joins old d2 d3 c file v w l i s a b made → ((n : Name) → same_name (name.Part file l i) n ≡ false → drafted d3 n ≡ drafted d2 n)
     → Turns old d d3 c file v w l i s made
 set_level old d d1 d2 d3 c file v w l k i s low high a b made e are there TA FA TB FB J F3 =
@@ -105,11 +105,11 @@ set_level old d d1 d2 d3 c file v w l k i s low high a b made e are there TA FA 
     let R : ℕ → Type 0 = λ l. Turns old d d3 c file v w l i s made in
     subst R (sym e) (set_step old d d1 d2 d3 c file v w k i s low high a b made (subst A e are) (subst K e there) TA FA TB FB (subst G e J) (subst H e F3))
 
-pub frame_level : (d d1 d2 d3 : Drafted) (file : FileId) (l k i : ℕ) → l ≡ suc k → Frame d d1 file k (2 * i) → Frame d1 d2 file k (2 * i + 1)
-    → ((n : Name) → same_name (name.Part file l i) n ≡ false → drafted d3 n ≡ drafted d2 n) → Frame d d3 file l i
+pub frame_level : (d d1 d2 d3 : Drafted) (file : FileId) (l k i : ℕ) → l ≡ suc k → DifferWithin d d1 file k (2 * i) → DifferWithin d1 d2 file k (2 * i + 1)
+    → ((n : Name) → same_name (name.Part file l i) n ≡ false → drafted d3 n ≡ drafted d2 n) → DifferWithin d d3 file l i
 frame_level d d1 d2 d3 file l k i e FA FB F3 =
     let H : ℕ → Type 0 = λ l. (n : Name) → same_name (name.Part file l i) n ≡ false → drafted d3 n ≡ drafted d2 n in
-    let R : ℕ → Type 0 = λ l. Frame d d3 file l i in
+    let R : ℕ → Type 0 = λ l. DifferWithin d d3 file l i in
     subst R (sym e) (frame_step d d1 d2 d3 file k i FA FB (subst H e F3))
 
 -- ---- what is missing
@@ -176,7 +176,7 @@ missing_low d c file l k i s a b low high (Need n x) z lt are there m =
     })
 
 -- a part under the upper half is missing, after the lower half was set
-pub missing_high : (d e : Drafted) (c : Resident) (file : FileId) (l k i : ℕ) (s a b : Side) (low high : ℕ) (x : Short) → l ≡ suc k → k < 16 → Frame d e file k (2 * i) → AreHalvesOf s (part_seen (seen d c (name.Part file l i))) a b → IsKnownBelow s (known d c (name.Part file l i))
+pub missing_high : (d e : Drafted) (c : Resident) (file : FileId) (l k i : ℕ) (s a b : Side) (low high : ℕ) (x : Short) → l ≡ suc k → k < 16 → DifferWithin d e file k (2 * i) → AreHalvesOf s (part_seen (seen d c (name.Part file l i))) a b → IsKnownBelow s (known d c (name.Part file l i))
     → IsMissing e c file k (2 * i + 1) b low high x → IsMissing d c file l i s low high x
 missing_high d e c file l k i s a b low high NoMemory z lt F are there m = tt
 missing_high d e c file l k i s a b low high (Need n x) z lt F are there m =

@@ -21,7 +21,7 @@ use Rattle.iris_node.specs.Fields.{EntryFields, PartFields}
 use Rattle.iris_node.specs.Unfolded.{Unfolded, id_of}
 use Rattle.iris_shape.specs.Folds.{Fold, One, Two, folded}
 use Rattle.iris_shape.specs.Sides.{part_of}
-use Rattle.iris_cache.specs.Rehash.{low_part, high_part, whole_part}
+use Rattle.iris_cache.specs.Rehash.{low_part, high_part, top_part}
 use Rattle.iris_cache.specs.Resident.{Resident}
 use Rattle.iris_cache.specs.Drafted.{Drafted, seen, known, there_by}
 use Rattle.iris_node.specs.Trees.{Shown}
@@ -64,11 +64,11 @@ reached_halves old new d c file v k j p pic lt fits at =
     let like = part_like new file v k j p pic.versions fits (pic.drafts.nodes (name.Part file (suc k) j) (node.Part p) at) in
     (like, record { like = like.low; linked = low_linked d c file v k j p p.low like lt at refl }, record { like = like.high; linked = high_linked d c file v k j p p.high like lt at refl })
 
-body_is : (b : Body) (s : Side) (id : FileId) (h : Hash32) → side_of_body b ≡ Some s → s ≡ Below h → BodyHolds id b (whole_part id) h
+body_is : (b : Body) (s : Side) (id : FileId) (h : Hash32) → side_of_body b ≡ Some s → s ≡ Below h → BodyHolds id b (top_part id) h
 body_is (Dir top) s id h is e = cc
 body_is (File n k versions) s id h is e =
     let q : versions ≡ Below h = cc in
-    let P : Side → Type 0 = λ s. SideHolds (whole_part id) s (whole_part id) h in
+    let P : Side → Type 0 = λ s. SideHolds (top_part id) s (top_part id) h in
     subst P (sym q) (refl, refl)
 
 top_linked : (d : Drafted) (c : Resident) (file : FileId) (g : Fold) (e : EntryFields) (s r : Side) → LikeTop file.0 g e s → seen d c (name.Entry file) ≡ Some (node.Entry e) → side_of_body e.body ≡ Some s → s ≡ r → IsLinkedSide d c file 16 0 r

@@ -22,7 +22,7 @@ use Rattle.iris_shape.specs.Sides.{unfolded_side, part_of}
 use Rattle.iris_shape.proofs.FoldProofs.{folded-zero}
 use Rattle.iris_cache.specs.declared.held.Held.{Held}
 use Rattle.iris_cache.specs.declared.draft.Change.{Change}
-use Rattle.iris_cache.specs.Rehash.{whole_part}
+use Rattle.iris_cache.specs.Rehash.{top_part}
 use Rattle.iris_cache.specs.Resident.{Resident, held_node}
 use Rattle.iris_cache.specs.Drafted.{Drafted, drafted, seen, known, known_by, there_by, set_to}
 use Rattle.iris_node.specs.Trees.{Shown, node_name, IsTree, IsParent, IsNodeName}
@@ -33,7 +33,7 @@ use Rattle.iris_version_tree.specs.Needs.{IsFileNode, HasEntryWith}
 use Rattle.iris_node.specs.Rules.{IsFileBody}
 use Rattle.iris_version_tree.specs.Sides.{entry_with, body_with, side_seen, side_of_body}
 use Rattle.iris_version_tree.specs.Reached.{IsTwo, IsDirectlyOver}
-use Rattle.iris_version_tree.specs.Ranges.{Within, IsPartWithin, Frame, Under, SideAt}
+use Rattle.iris_version_tree.specs.Ranges.{Within, IsPartWithin, DifferWithin, Under, SideAt}
 use Rattle.iris_version_tree.proofs.Levels.{fits_up}
 use Rattle.iris_version_tree.proofs.Tables.{part_parent, two_above, like_top}
 use Rattle.iris_version_tree.proofs.Spans.{not_same}
@@ -185,7 +185,7 @@ known_same d e c n h = ap (λ o. known_by o (held_node c n)) h
 above_same : (d e : Drafted) (c : Resident) (n : Name) → drafted e n ≡ drafted d n → parent_after e c n ≡ parent_after d c n
 above_same d e c n h = ap (λ o. parent_by o (held_node c n)) h
 
-body_hash : (s : Side) (id : FileId) (b : Body) (k : Name) (h : Hash32) → BodyHolds id (body_with s b) k h → BodyHolds id b k h ⊎ SideHolds (whole_part id) s k h
+body_hash : (s : Side) (id : FileId) (b : Body) (k : Name) (h : Hash32) → BodyHolds id (body_with s b) k h → BodyHolds id b k h ⊎ SideHolds (top_part id) s k h
 body_hash s id (Dir top) k h holds = inl holds
 body_hash s id (File n m versions) k h holds = inr holds
 
@@ -278,7 +278,7 @@ module _ (old new made : Shown) (file : FileId) (v w : ℕ → ℕ) (d e : Draft
           | inl b ↦ f (inr (inl b))
           | inr b ↦ elim (body_hash s x.id x.body k h b) as (λ _. WasHash old c k h) [
             | inl g ↦ f (inr (inr g))
-            | inr g ↦ side_true old c file w 16 0 (whole_part x.id) k s h (ap (λ f. name.Part f 16 0) wr.id) wr.side g
+            | inr g ↦ side_true old c file w 16 0 (top_part x.id) k s h (ap (λ f. name.Part f 16 0) wr.id) wr.side g
           ]
         ]
       ])
@@ -415,7 +415,7 @@ entry_resident (Some h) None m A at f = inl refl
 entry_resident None None m A at f = cc
 
 module _ (old new : Shown) (file : FileId) (v w : ℕ → ℕ) (d d1 : Drafted) (c : Resident) (s t : Side) (pic : Versioned old new file v d c) (x : EntryFields) (was : seen d c (name.Entry file) ≡ Some (node.Entry x)) (is : side_seen (seen d c (name.Entry file)) ≡ Some s)
-    (frame : Frame d d1 file 16 0) (made : Under old w d1 c file 16 0 × SideAt old c file w 16 0 t) where
+    (frame : DifferWithin d d1 file 16 0) (made : Under old w d1 c file 16 0 × SideAt old c file w 16 0 t) where
   body_is : side_of_body x.body ≡ Some s
   body_is = sym (ap side_seen was) ∙ is
 
@@ -466,7 +466,7 @@ file_kept x s o r oe h re = subst IsFileNode (sym re) (by x.body (subst IsFileNo
     by (Dir top) h = h
     by (File n k versions) h = tt
 
-module _ (file : FileId) (d d1 : Drafted) (c : Resident) (s t : Side) (is : side_seen (seen d c (name.Entry file)) ≡ Some s) (frame : Frame d d1 file 16 0) where
+module _ (file : FileId) (d d1 : Drafted) (c : Resident) (s t : Side) (is : side_seen (seen d c (name.Entry file)) ≡ Some s) (frame : DifferWithin d d1 file 16 0) where
   pub left_entry : t ≡ s → (x : EntryFields) → seen d c (name.Entry file) ≡ Some (node.Entry x) → HasEntryWith d1 c file x
   left_entry e x was =
       let b : side_of_body x.body ≡ Some s = sym (ap side_seen was) ∙ is in
@@ -484,6 +484,6 @@ file_after file d e c h f =
     let r = f x.0 x.1 in
     file_kept x.0 r.0 (seen d c (name.Entry file)) (seen e c (name.Entry file)) x.1 h r.1
 
-pub others_after : (file : FileId) (d d1 e : Drafted) → Frame d d1 file 16 0 → ((n : Name) → same_name (name.Entry file) n ≡ false → drafted e n ≡ drafted d1 n)
+pub others_after : (file : FileId) (d d1 e : Drafted) → DifferWithin d d1 file 16 0 → ((n : Name) → same_name (name.Entry file) n ≡ false → drafted e n ≡ drafted d1 n)
     → (n : Name) → (IsPartWithin file 16 0 n → ⊥) → (n ≡ name.Entry file → ⊥) → drafted e n ≡ drafted d n
 others_after file d d1 e frame same n out isnt = same n (not_same (name.Entry file) n (λ q. isnt (sym q))) ∙ frame n out

@@ -37,8 +37,8 @@ IsPartWithin file l i (name.Block g p) = ⊥
 IsPartWithin file l i (name.Part g k j) = (g ≡ file) × Within l i k j × (1 ≤ k)
 
 -- two drafts differ in parts under one at most
-abbrev pub Frame : Drafted → Drafted → FileId → ℕ → ℕ → Type 0
-Frame old new file l i = (n : Name) → (IsPartWithin file l i n → ⊥) → drafted new n ≡ drafted old n
+abbrev pub DifferWithin : Drafted → Drafted → FileId → ℕ → ℕ → Type 0
+DifferWithin old new file l i = (n : Name) → (IsPartWithin file l i n → ⊥) → drafted new n ≡ drafted old n
 
 -- the halves of a part are those of a fold
 abbrev pub AreHalves : Fold → PartFields → Type 0

@@ -29,7 +29,7 @@ abbrev pub IsDirectlyOver : FileId → ℕ → ℕ → Name → Type 0
 IsDirectlyOver file l i q = ((l ≡ 16) × (q ≡ name.Entry file)) ⊎ ((j : ℕ) × (l < 16) × (q ≡ name.Part file (suc l) j) × ((i ≡ 2 * j) ⊎ (i ≡ 2 * j + 1)))
 
 -- a hash of a part is held by the part or entry over it, which is seen
-pub record IsLinked (d : Drafted) (c : Resident) (file : FileId) (l i : ℕ) (h : Hash32) : Type 0 where
+pub record IsLinkedPart (d : Drafted) (c : Resident) (file : FileId) (l i : ℕ) (h : Hash32) : Type 0 where
   pub parent : Name
   pub node : Node
   pub is_seen : seen d c parent ≡ Some node
@@ -38,7 +38,7 @@ pub record IsLinked (d : Drafted) (c : Resident) (file : FileId) (l i : ℕ) (h 
 
 abbrev pub IsLinkedSide : Drafted → Resident → FileId → ℕ → ℕ → Side → Type 0
 IsLinkedSide d c file l i (Same w) = Unit {0}
-IsLinkedSide d c file l i (Below h) = IsLinked d c file l i h
+IsLinkedSide d c file l i (Below h) = IsLinkedPart d c file l i h
 
 -- a side that was reached stands for its fold, and is held by what is seen over it
 pub record Reached (d : Drafted) (c : Resident) (file : FileId) (v : ℕ → ℕ) (l i : ℕ) (s : Side) : Type 0 where

@@ -12,7 +12,7 @@ ghost use Rattle.iris_cache.specs.Pictures.{parent_after, Drafts};
 ghost use Rattle.iris_version_tree.specs.Versions.{Versioned, HadVersions, Reversions, places};
 ghost use Rattle.iris_version_tree.specs.Needs.{IsFile, HasEntryWith, IsPartShort};
 ghost use Rattle.iris_version_tree.specs.Sides.{body_with, entry_with, side_seen};
-ghost use Rattle.iris_version_tree.specs.Ranges.{Frame, IsPartWithin, Turns, IsMissing};
+ghost use Rattle.iris_version_tree.specs.Ranges.{DifferWithin, IsPartWithin, Turns, IsMissing};
 
 use crate::parts::{Halves, halves_of, join};
 use crate::walk::{file_entry, top_side};
@@ -55,7 +55,7 @@ fn set_range(
     requires fits { (index + 1) * 2 ^ level ≤ places }
     requires some { span.low < span.high }
     requires floor { level ≡ 0 → IsFold side }
-    ensures frame { OnOk result (Frame draft.old draft.new file level index) }
+    ensures frame { OnOk result (DifferWithin draft.old draft.new file level index) }
     ensures keeps { OnOk result ((n : SpecName) → drafted draft.new n ≡ None → drafted draft.old n ≡ None) }
     ensures made { IfOk result (λ s. (old : Shown) → (v : ℕ → ℕ) → Turns old draft.old draft.new cache.now file v (with_range_set v span.low span.high span.version) level index side s) }
     ensures floor { IfOk result (λ s. level ≡ 0 → IsFold s) }

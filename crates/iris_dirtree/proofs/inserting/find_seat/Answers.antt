@@ -13,7 +13,7 @@ use Rattle.iris_shape.specs.Order.{less_name, beats}
 use Rattle.iris_shape.specs.Treap.{Treap, Each}
 use Rattle.iris_treepaths.specs.declared.paths.Crumb.{Crumb}
 use Rattle.iris_treepaths.specs.Crumbs.{AreNamed}
-use Rattle.iris_dirtree.specs.Descents.{Stands, Walked}
+use Rattle.iris_dirtree.specs.Descents.{StandsBelow, Walked}
 use Rattle.iris_treepaths.specs.Paths.{Frame, met_along}
 use Rattle.iris_treepaths.specs.Rows.{Row}
 use Rattle.iris_treepaths.proofs.PathLaws.{each_more, met_plug, along_over}
@@ -64,7 +64,7 @@ returns-in_err-node-clause-short c =
     let q = c.args.cache.now in
     let d = c.args.draft.now in
     let ks = c.loop-step.path.items in
-    let walked : (old new : Shown) (t : Treap Row) (lasts : Name → Bool) (p : Name) → Stands old new q t lasts d p c.args.top t → Walked old new q lasts d p n t ks (Some c.in-Some.link) = λ old new t lasts p start.
+    let walked : (old new : Shown) (t : Treap Row) (lasts : Name → Bool) (p : Name) → StandsBelow old new q t lasts d p c.args.top t → Walked old new q lasts d p n t ks (Some c.in-Some.link) = λ old new t lasts p start.
     let S : Option Link → Type 0 = λ o. Walked old new q lasts d p n t ks o in
     subst S c.in-Some.is (c.loop-step.invariant.walked old new t lasts p start).0 in
     rw (r.1, r.2) (walk_stop q d n (met_along n) c.args.top ks c.in-Some.link c.in_err-node.field-0.0 (λ y l m. inl refl) (met_plug n (met_along n) (along_over n)) walked c.in_err-node.ensures.short)

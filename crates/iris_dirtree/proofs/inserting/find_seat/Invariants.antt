@@ -6,7 +6,7 @@ use Rattle.iris_node.specs.Trees.{Shown}
 use Rattle.iris_shape.specs.Order.{beats}
 use Rattle.iris_shape.specs.Treap.{Treap, Each}
 use Rattle.iris_treepaths.specs.Crumbs.{AreNamed}
-use Rattle.iris_dirtree.specs.Descents.{Stands, Walked}
+use Rattle.iris_dirtree.specs.Descents.{StandsBelow, Walked}
 use Rattle.iris_treepaths.specs.Paths.{Frame}
 use Rattle.iris_treepaths.specs.Rows.{Row}
 use Rattle.iris_dirtree.proofs.inserting.find_seat.Given as goal
@@ -15,6 +15,6 @@ abbrev pub invariant-loop-step : goal.invariant-loop-step
 invariant-loop-step l = record {
   named : AreNamed l.path.items;
   linked : IsLinkToNamed l.at;
-  walked : (old new : Shown) → (t : Treap Row) → (lasts : Name → Bool) → (p : Name) → Stands old new l.cache t lasts l.draft p l.fn.top t
+  walked : (old new : Shown) → (t : Treap Row) → (lasts : Name → Bool) → (p : Name) → StandsBelow old new l.cache t lasts l.draft p l.fn.top t
       → (w : Walked old new l.cache lasts l.draft p l.name t l.path.items l.at) × Each (λ (f : Frame). beats (priority l.keys.order) l.id.0 f.row.id ≡ false) w.front;
 }

@@ -11,7 +11,7 @@ use Rattle.iris_shape.specs.Order.{less_name}
 use Rattle.iris_shape.specs.Treap.{Treap}
 use Rattle.iris_treepaths.specs.declared.paths.Crumb.{Crumb}
 use Rattle.iris_treepaths.specs.Crumbs.{AreNamed}
-use Rattle.iris_dirtree.specs.Descents.{Stands}
+use Rattle.iris_dirtree.specs.Descents.{StandsBelow}
 use Rattle.iris_treepaths.specs.Rows.{Row}
 use Rattle.iris_dirtree.specs.Splits.{Splitting}
 use Rattle.iris_treepaths.proofs.PathLaws.{each_more}
@@ -67,7 +67,7 @@ returns-in_err-node-clause-short c =
     let d = c.args.draft.now in
     let lows = c.loop-step.halves.low.items in
     let highs = c.loop-step.halves.high.items in
-    let splits : (old new : Shown) (home t : Treap Row) (lasts : Name → Bool) (p : Name) → Stands old new q home lasts d p c.args.top t → Splitting old new q home lasts d n t lows highs (Some c.in-Some.link) = λ old new home t lasts p start.
+    let splits : (old new : Shown) (home t : Treap Row) (lasts : Name → Bool) (p : Name) → StandsBelow old new q home lasts d p c.args.top t → Splitting old new q home lasts d n t lows highs (Some c.in-Some.link) = λ old new home t lasts p start.
     let S : Option Link → Type 0 = λ o. Splitting old new q home lasts d n t lows highs o in
     subst S c.in-Some.is (c.loop-step.invariant.splitting old new home t lasts p start) in
     rw (r.1, r.2) (split_stop q d n c.args.top lows highs c.in-Some.link c.in_err-node.field-0.0 splits c.in_err-node.ensures.short)

@@ -4,7 +4,7 @@ use Rattle.iris_node.specs.Rules.{IsLinkToNamed}
 use Rattle.iris_node.specs.Trees.{Shown}
 use Rattle.iris_shape.specs.Treap.{Treap}
 use Rattle.iris_treepaths.specs.Crumbs.{AreNamed}
-use Rattle.iris_dirtree.specs.Descents.{Stands}
+use Rattle.iris_dirtree.specs.Descents.{StandsBelow}
 use Rattle.iris_treepaths.specs.Rows.{Row}
 use Rattle.iris_dirtree.specs.Splits.{Splitting}
 use Rattle.iris_dirtree.proofs.inserting.split.Given as goal
@@ -14,6 +14,6 @@ invariant-loop-step l = record {
   low : AreNamed l.halves.low.items;
   high : AreNamed l.halves.high.items;
   linked : IsLinkToNamed l.at;
-  splitting : (old new : Shown) → (home t : Treap Row) → (lasts : Name → Bool) → (q : Name) → Stands old new l.cache home lasts l.draft q l.fn.top t
+  splitting : (old new : Shown) → (home t : Treap Row) → (lasts : Name → Bool) → (q : Name) → StandsBelow old new l.cache home lasts l.draft q l.fn.top t
       → Splitting old new l.cache home lasts l.draft l.name t l.halves.low.items l.halves.high.items l.at;
 }

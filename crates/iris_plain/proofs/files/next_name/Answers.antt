@@ -1,7 +1,7 @@
 use Rattle.std.proofs.Common.{◌≡◌, arith, sym, subst, List, ℕ, Bool, MatchOption, Bor, Option}
 use Rattle.std.proofs.lemmas.List.{take_all}
 use Rattle.iris_plain.specs.Pages.{NoneLater, IsNext}
-use Rattle.iris_plain.specs.Steps.{has_name}
+use Rattle.iris_plain.specs.Steps.{has_entry_named}
 use Rattle.iris_plain.specs.Entries.{kind_at}
 use Rattle.iris_plain.specs.declared.files.Entry.{Entry}
 use Rattle.iris_plain.proofs.EntryLaws.{names_skip, names_push}
@@ -25,5 +25,5 @@ loop-entry-preserved c = elim c.match-child_name.branch [
 
 pub returns : goal.returns
 returns c =
-    let P : List Entry → Type 0 = λ es. MatchOption c.loop-entry.best (NoneLater (has_name (kind_at es) c.args.names.now) c.args.after.now) (λ b. IsNext (has_name (kind_at es) c.args.names.now) c.args.after.now b.now) in
+    let P : List Entry → Type 0 = λ es. MatchOption c.loop-entry.best (NoneLater (has_entry_named (kind_at es) c.args.names.now) c.args.after.now) (λ b. IsNext (has_entry_named (kind_at es) c.args.names.now) c.args.after.now b.now) in
     subst P (take_all c.loop-entry.entry-index c.args.entries.now (omega arith)) c.loop-entry.invariant

@@ -2,7 +2,7 @@ use Rattle.std.proofs.Common.{◌≡◌, ◌+◌, List, sym, ◌∙◌, ap, subs
 use Rattle.std.proofs.lemmas.Result.{on_ok_weaker}
 use Rattle.iris_plain.specs.Checks.{blocks_of}
 use Rattle.iris_rows.specs.declared.places.Place.{Place}
-use Rattle.iris_rows.specs.Places.{IsKept, file_of, split_places}
+use Rattle.iris_rows.specs.Places.{ArePlacesKept, file_of, split_places}
 use Rattle.iris_rows.proofs.KeptPlaces.{sliced}
 use Rattle.iris_rows.proofs.KeptFiles.{fit_down, kept_down, fits_up, keeps_up}
 use Rattle.iris_rows.proofs.places.refit.Goals as goal
@@ -18,7 +18,7 @@ returns-in_ok-split-clause-ok c = ap (λ (ps : List Place). file_of (record { si
     ∙ fit_down c.args.old c.args.size c.args.counter c.args.places.now.items c.if-size-old.true c.requires.kept
 
 pub returns-in_ok-split-clause-kept : goal.returns-in_ok-split-clause-kept
-returns-in_ok-split-clause-kept c = let P : List Place → Type 0 = λ ps. IsKept (record { size = c.args.size; counter = c.args.counter + 1; places = ps }) in
+returns-in_ok-split-clause-kept c = let P : List Place → Type 0 = λ ps. ArePlacesKept (record { size = c.args.size; counter = c.args.counter + 1; places = ps }) in
     subst P (sym (cut_down c)) (kept_down c.args.old c.args.size c.args.counter c.args.places.now.items c.if-size-old.true c.requires.kept)
 
 pub returns-else-size-old-clause-ok : goal.returns-else-size-old-clause-ok

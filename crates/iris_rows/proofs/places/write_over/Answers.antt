@@ -3,7 +3,7 @@ use Rattle.std.specs.Prelude.{slice_get, Some, nat_lt}
 use Rattle.iris_rows.specs.declared.places.Place.{Place}
 use Rattle.iris_plain.specs.Checks.{blocks_of}
 use Rattle.iris_rows.specs.FileChanges.{merged}
-use Rattle.iris_rows.specs.Places.{IsKept, file_of, hole, block_at}
+use Rattle.iris_rows.specs.Places.{ArePlacesKept, file_of, hole, block_at}
 use Rattle.iris_rows.proofs.KeptPlaces.{sliced}
 use Rattle.iris_rows.proofs.KeptFiles.{fit_write, kept_write}
 use Rattle.iris_rows.proofs.places.write_over.Goals as goal
@@ -28,7 +28,7 @@ returns-clause-ok c =
 
 pub returns-clause-kept : goal.returns-clause-kept
 returns-clause-kept c =
-    let P : List Place → Type 0 = λ ps. IsKept (record { size = cond (nat_lt c.args.size (c.args.offset + length c.args.bytes.now)) (c.args.offset + length c.args.bytes.now) c.args.size; counter = c.args.counter + 1; places = ps }) in
+    let P : List Place → Type 0 = λ ps. ArePlacesKept (record { size = cond (nat_lt c.args.size (c.args.offset + length c.args.bytes.now)) (c.args.offset + length c.args.bytes.now) c.args.size; counter = c.args.counter + 1; places = ps }) in
     subst P (sym (sliced c.extend.new.places.len c.put_pages.new.places c.extend.new.places.items (long c)))
     (kept_write c.args.size c.args.counter c.args.offset c.args.bytes.now c.args.places.now.items c.as_mut_slice.result.now c.put_pages.new.places c.in_ok-pages.pages.items
     c.requires.kept c.requires.some (c.as_mut_slice.ensures.value ∙ mid c) c.in_ok-pages.ensures.len (pages c) c.put_pages.ensures c.put_pages.auto.places c.requires.room)

@@ -8,7 +8,7 @@ use Rattle.iris_cache.specs.declared.held.Held.{Held}
 use Rattle.iris_cache.specs.Held.{with_parent, with_kids, moved_node}
 use Rattle.iris_cache.specs.Drafted.{Drafted, drafted, is_set}
 use Rattle.iris_cache.specs.Applied.{bare, node_written, node_of_change, spent, hung, landed_node, Lands}
-use Rattle.iris_cache.specs.Resident.{held_node, map_if, IsSound}
+use Rattle.iris_cache.specs.Resident.{held_node, map_if, IsSoundCache}
 use Rattle.iris_cache.proofs.Hangs.{none-back}
 use Rattle.iris_cache.proofs.Landing.{landing, whole, bare-none}
 use Rattle.iris_cache.proofs.Ways.{over-met}
@@ -42,7 +42,7 @@ returns-clause-nodes c = λ q.
     let d : bare new q ≡ option_map (with_kids 0) (landed_node o y) = c.hang.ensures.nodes q ∙ ap (λ v. hung v (bare wrote q)) (c.write.ensures.changes q) ∙ ap (hung (option_map spent o)) b ∙ landing o y in
     let lands : Lands D old new q = record {
       marked = m.marked;
-      is = whole new q (landed_node o y) (subst IsSound c.self.view_is c.self.invariant.sound) d;
+      is = whole new q (landed_node o y) (subst IsSoundCache c.self.view_is c.self.invariant.sound) d;
       from = λ t. let f = m.from t in (f.0, f.1, (length old.nodes + length D.changes + 1, f.2));
       all = λ n f over. m.all n f (over-met D old n q over);
     } in

@@ -2,7 +2,7 @@ use Rattle.std.proofs.Common.{◌≡◌, sym, ◌∙◌, ap}
 use Rattle.iris_name.specs.Paths.{names_of}
 use Rattle.iris_plain.specs.Checks.{resize_checks, size_of}
 use Rattle.iris_plain.specs.Files.{seen_at, bytes_changed, resized_bytes}
-use Rattle.iris_plain.specs.Entries.{kind_at, state_of_list, Listed}
+use Rattle.iris_plain.specs.Entries.{kind_at, state_of_list, ListedEntries}
 use Rattle.iris_plain.specs.Steps.{aged}
 use Rattle.iris_plain.proofs.StepLaws.{next_err, next_ok, same_state, stays_same, goes_on}
 use Rattle.iris_plain.proofs.step.Plain.resize.Goals as goal
@@ -22,5 +22,5 @@ returns-clause-step c =
     next_ok (names_of c.args.path.now) c.in-Some.path (c.in_ok-path.ensures ∙ c.in-Some.is) _ (state_of_list c.args.self.now) _ _
     (sym (λ i. resize_checks ((c.seen-here.ensures ∙ ap (seen_at (kind_at c.args.self.now.entries)) c.names.ensures) i) c.args.size (c.is_full.ensures i)) ∙ sym c.resize_checks.ensures ∙ c.in_default-resize_checks.is)
     (goes_on c.args.size _ (state_of_list c.args.self.now) (aged (bytes_changed c.in-Some.path (resized_bytes c.args.size)) (state_of_list c.args.self.now)) _ (λ e. c.if-size-size_of.false (e ∙ sym same))
-    (same_state c.args.self.now c.self.inside.entries.items c.resize_at.new.entries.items c.self.inside.age (bytes_changed c.in-Some.path (resized_bytes c.args.size)) (ap (λ (l : Listed). l.entries) c.self.view_is) (ap (λ (l : Listed). l.age) c.self.view_is)
+    (same_state c.args.self.now c.self.inside.entries.items c.resize_at.new.entries.items c.self.inside.age (bytes_changed c.in-Some.path (resized_bytes c.args.size)) (ap (λ (l : ListedEntries). l.entries) c.self.view_is) (ap (λ (l : ListedEntries). l.age) c.self.view_is)
     (λ q. c.in_ok-resize_at.ensures.ok q ∙ ap (λ names. bytes_changed names (resized_bytes c.args.size) (kind_at c.self.inside.entries.items) q) c.names-2.ensures)))
