@@ -21,15 +21,15 @@ use Rattle.iris_cache.specs.Resident.{Resident, held_node}
 use Rattle.iris_cache.specs.Drafted.{Drafted, drafted, seen, known_by, set_to}
 use Rattle.iris_cache.specs.Pictures.{IsLike, WasHash, parent_after}
 use Rattle.iris_treepaths.specs.declared.paths.Crumb.{Crumb}
-use Rattle.iris_treepaths.specs.Crumbs.{Seated, CrumbsRising, crumb_above}
+use Rattle.iris_treepaths.specs.Crumbs.{Seated, Rises, crumb_above}
 use Rattle.iris_dirtree.specs.Descents.{StandsBelow}
 use Rattle.iris_treepaths.specs.Hands.{IsRowNode, HoldsTrue}
 use Rattle.iris_treepaths.specs.Needs.{ListedInHand}
 use Rattle.iris_treepaths.specs.Nodes.{between, dir_top, LinksTo, IsPut, OnlyEntries}
-use Rattle.iris_treepaths.specs.Paths.{Frame, plug, entry_name, above, PassesRow, Outside, Once}
+use Rattle.iris_treepaths.specs.Paths.{Frame, plug, entry_name, above, PassesBy, Outside, Once}
 use Rattle.iris_treepaths.specs.Planted.{Planted, IsRowName, with_top}
 use Rattle.iris_treepaths.specs.Rows.{Row, row_id, unfolded_rows, up, Rearranges, IsCountable}
-use Rattle.iris_dirtree.specs.Splits.{SplitReached, IsSplit, seen_with}
+use Rattle.iris_dirtree.specs.Splits.{SeatReached, IsSplit, seen_with}
 use Rattle.iris_treepaths.specs.Ways.{is_row_before}
 use Rattle.iris_dirtree.proofs.TreapTops.{holder, stands_start, dir_apart}
 use Rattle.iris_treepaths.proofs.Crumbs.{put_stays, seated_frame, seat_put, put_there, crumbs_above, above_lasts, crumbs_frame}
@@ -137,7 +137,7 @@ module _ (key : List ℕ) (dir : FileId) (x : Row) (e : EntryFields) (d : Drafte
   u_is : insert (up key) (is_row_before n) x t ≡ u
   u_is = ap (λ m. insert (up key) (is_row_before m) x t) all.named ∙ sym (put_is key x xs all.listed.rows_are.rising all.listed.rows_are.distinct all.rearranged.rows.distinct)
 
-  module _ (ks : List Crumb) (at : Option Link) (r : SplitReached (priority key) e.id old new c lasts d root n t ks at) where
+  module _ (ks : List Crumb) (at : Option Link) (r : SeatReached (priority key) e.id old new c lasts d root n t ks at) where
     abbrev pub lower : Treap Row
     lower = low (is_row_before n) r.walked.rest
 
@@ -150,7 +150,7 @@ module _ (key : List ℕ) (dir : FileId) (x : Row) (e : EntryFields) (d : Drafte
         let fs = r.walked.front in
         let num : e.id.0 ≡ x.id = ap (λ j. j.0) (row_node_id x e all.is_row).0 in
         let ups = each_map (λ (f : Frame). beats (priority key) e.id.0 f.row.id ≡ false) (λ f. up key x f.row ≡ false) fs (λ f h. sym (ap (λ j. beats (priority key) j f.row.id) num) ∙ h) r.above in
-        let sides = each_map (PassesRow n) (λ f. f.right ≡ is_row_before n f.row) fs (λ f h. h.0) r.walked.passed in
+        let sides = each_map (PassesBy n) (λ f. f.right ≡ is_row_before n f.row) fs (λ f h. h.0) r.walked.passed in
         sym u_is ∙ ap (insert (up key) (is_row_before n) x) r.walked.is ∙ insert_plug (up key) (is_row_before n) x fs r.walked.rest ups sides
         ∙ ap (plug fs) (insert_top (up key) (is_row_before n) x r.walked.rest (top_beaten (priority key) e.id x r.walked.rest num r.below))
 
@@ -177,7 +177,7 @@ module _ (key : List ℕ) (dir : FileId) (x : Row) (e : EntryFields) (d : Drafte
     few_high = let a = (less_over x.id x.name x.content (unfolded_rows lower) (unfolded_rows higher)).1 in let g = few_here in omega (arith, a, g)
 
     module _ (lows highs : List Crumb) (split : IsSplit old c t lasts d n r.walked.rest lows highs) where
-      pub low_rising : CrumbsRising old c t lasts d d (name.Entry e.id) lower lows None
+      pub low_rising : Rises old c t lasts d d (name.Entry e.id) lower lows None
       low_rising = rising_bare old c t lasts d (name.Entry e.id) lower split.low_front lows split.low_is split.low_crumbs
 
       module _ (d1 : Drafted) (low_link : Option Link) (low_risen : Risen old c t lasts d d1 (name.Entry e.id) lower low_link) where
@@ -185,7 +185,7 @@ module _ (key : List ℕ) (dir : FileId) (x : Row) (e : EntryFields) (d : Drafte
         high_same : Every (λ z. drafted d1 (entry_name z) ≡ drafted d (entry_name z)) higher
         high_same = every_map (λ z. Outside (entry_name z) lower) (λ z. drafted d1 (entry_name z) ≡ drafted d (entry_name z)) higher (λ z o. low_risen.off (entry_name z) o) (apart_swap lower higher apart.2)
 
-        pub high_rising : CrumbsRising old c t lasts d1 d1 (name.Entry e.id) higher highs None
+        pub high_rising : Rises old c t lasts d1 d1 (name.Entry e.id) higher highs None
         high_rising =
             let E : Treap Row → Type 0 = λ w. Every (λ z. drafted d1 (entry_name z) ≡ drafted d (entry_name z)) w in
             rising_bare old c t lasts d1 (name.Entry e.id) higher split.high_front highs split.high_is (crumbs_frame old c t lasts d d1 split.high_front highs Empty (subst E split.high_is high_same) split.high_crumbs)
@@ -193,7 +193,7 @@ module _ (key : List ℕ) (dir : FileId) (x : Row) (e : EntryFields) (d : Drafte
         module _ (d2 : Drafted) (high_link : Option Link) (high_risen : Risen old c t lasts d1 d2 (name.Entry e.id) higher high_link) where
           -- the row is seated over both
           pub seat_rising : (d3 : Drafted) (hash : Hash32) (parent : FileId) (link : Link) → parent ≡ crumb_above dir ks → IsSome (seen d c root) → LinksTo (between low_link high_link e) hash link → IsPut d2 d3 (Some (name.Entry parent)) (between low_link high_link e) → WasHash old c (name.Entry e.id) hash
-              → CrumbsRising old c t lasts d d3 root u ks (Some link)
+              → Rises old c t lasts d d3 root u ks (Some link)
           seat_rising d3 hash parent link parent_is there links put was =
               let fs = r.walked.front in
               let y = between low_link high_link e in
@@ -243,7 +243,7 @@ module _ (key : List ℕ) (dir : FileId) (x : Row) (e : EntryFields) (d : Drafte
   dir_not_now : (q : Name) → IsRowName (rows u) q → q ≢ root
   dir_not_now q k h = elim (put_none (is_row_before x.name) x xs q (rows_now q k)) [ inl s ↦ dir_not_x (sym h ∙ s ∙ sym named_id) | inr s ↦ dir_not_was q (was_rows q s) h ]
 
-  pub planted : (d3 d4 : Drafted) (top kept_top : Option Link) → dir_top (seen d c root) ≡ Some kept_top → CrumbsRising old c t lasts d d3 root u [] top → OnlyEntries d d4 → IsSome (seen d4 c (name.Entry e.id))
+  pub planted : (d3 d4 : Drafted) (top kept_top : Option Link) → dir_top (seen d c root) ≡ Some kept_top → Rises old c t lasts d d3 root u [] top → OnlyEntries d d4 → IsSome (seen d4 c (name.Entry e.id))
       → ((z : EntryFields) → seen d3 c root ≡ Some (node.Entry z) → drafted d4 root ≡ Some (set_to (parent_after d3 c root) (node.Entry (with_top top z)))) → ((q : Name) → same_name root q ≡ false → drafted d4 q ≡ drafted d3 q) → Planted old dir t u d d4 c
   planted d3 d4 top kept_top top_is rise only comes set frame =
       let hold = holder (seen d c root) kept_top top_is in

@@ -16,7 +16,7 @@ use Rattle.iris_cache.specs.declared.held.Short.{Short}
 use Rattle.iris_cache.specs.Resident.{Resident}
 use Rattle.iris_cache.specs.Drafted.{Drafted, drafted, seen}
 use Rattle.iris_treepaths.specs.declared.paths.Crumb.{Crumb}
-use Rattle.iris_treepaths.specs.Crumbs.{Seated, CrumbLeads, AreCrumbs, CrumbsRising, crumb_above}
+use Rattle.iris_treepaths.specs.Crumbs.{Seated, LeadsToTop, AreCrumbs, Rises, crumb_above}
 use Rattle.iris_dirtree.specs.Descents.{FoundRow, IsStop}
 use Rattle.iris_dirtree.specs.Merges.{Merging, IsMerged, Merges}
 use Rattle.iris_treepaths.specs.Nodes.{IsLinkLack, IsPut}
@@ -151,14 +151,14 @@ module _ (old : Shown) (c : Resident) (home : Treap Row) (lasts : Name → Bool)
       ((k : Link) → (x : EntryFields) → end ≡ Some k → seen d c (name.Entry k.id) ≡ Some (node.Entry x) → IsPut d e (Some (name.Entry p)) x)
       × ((k : Link) → end ≡ Some k → seen d c (name.Entry k.id) ≡ None → e ≡ d) × (end ≡ None → e ≡ d)
 
-  same_rising : (d e : Drafted) (p : Name) (u : Treap Row) (ks : List Crumb) (end : Option Link) (front : List Frame) (w : Treap Row) → u ≡ plug front w → AreCrumbs old c home lasts d front ks → CrumbLeads old c end w → Seated old c home lasts d (above p front) w → e ≡ d
-      → CrumbsRising old c home lasts d e p u ks end
+  same_rising : (d e : Drafted) (p : Name) (u : Treap Row) (ks : List Crumb) (end : Option Link) (front : List Frame) (w : Treap Row) → u ≡ plug front w → AreCrumbs old c home lasts d front ks → LeadsToTop old c end w → Seated old c home lasts d (above p front) w → e ≡ d
+      → Rises old c home lasts d e p u ks end
   same_rising d e p u ks end front w is crumbs leads seated same =
-      let R : Drafted → Type 0 = λ e. CrumbsRising old c home lasts d e p u ks end in
+      let R : Drafted → Type 0 = λ e. Rises old c home lasts d e p u ks end in
       subst R (sym same) (record { front = front; done = w; is = is; crumbs = crumbs; leads = leads; seated = seated; off = λ n o. refl; touched = λ n. inl refl; stays = λ n h. h })
 
-  put_rising : (d e : Drafted) (dir : FileId) (u : Treap Row) (ks : List Crumb) (end : Option Link) (front : List Frame) (q : Name) (y : Row) (l m : Treap Row) (x : EntryFields) → u ≡ plug front (Over y l m) → AreCrumbs old c home lasts d front ks → CrumbLeads old c end (Over y l m)
-      → Seated old c home lasts d q (Over y l m) → Once u → lasts (name.Entry dir) ≡ true → seen d c (entry_name y) ≡ Some (node.Entry x) → IsPut d e (Some (name.Entry (crumb_above dir ks))) x → CrumbsRising old c home lasts d e (name.Entry dir) u ks end
+  put_rising : (d e : Drafted) (dir : FileId) (u : Treap Row) (ks : List Crumb) (end : Option Link) (front : List Frame) (q : Name) (y : Row) (l m : Treap Row) (x : EntryFields) → u ≡ plug front (Over y l m) → AreCrumbs old c home lasts d front ks → LeadsToTop old c end (Over y l m)
+      → Seated old c home lasts d q (Over y l m) → Once u → lasts (name.Entry dir) ≡ true → seen d c (entry_name y) ≡ Some (node.Entry x) → IsPut d e (Some (name.Entry (crumb_above dir ks))) x → Rises old c home lasts d e (name.Entry dir) u ks end
   put_rising d e dir u ks end front q y l m x is crumbs leads seated once there at put =
       let p = name.Entry dir in
       let n = entry_name y in
@@ -187,8 +187,8 @@ module _ (old : Shown) (c : Resident) (home : Treap Row) (lasts : Name → Bool)
       }
 
   moved_rising : (d e : Drafted) (dir : FileId) (u : Treap Row) (ks : List Crumb) (end : Option Link) (front : List Frame) (q : Name) (y : Row) (l m : Treap Row) (k : Link) (o : Option Node) → u ≡ plug front (Over y l m) → AreCrumbs old c home lasts d front ks
-      → CrumbLeads old c end (Over y l m) → Seated old c home lasts d q (Over y l m) → Once u → lasts (name.Entry dir) ≡ true → end ≡ Some k → name.Entry k.id ≡ entry_name y → seen d c (entry_name y) ≡ o → IsMoved d e (crumb_above dir ks) end
-      → CrumbsRising old c home lasts d e (name.Entry dir) u ks end
+      → LeadsToTop old c end (Over y l m) → Seated old c home lasts d q (Over y l m) → Once u → lasts (name.Entry dir) ≡ true → end ≡ Some k → name.Entry k.id ≡ entry_name y → seen d c (entry_name y) ≡ o → IsMoved d e (crumb_above dir ks) end
+      → Rises old c home lasts d e (name.Entry dir) u ks end
   moved_rising d e dir u ks end front q y l m k None is crumbs leads seated once there link id at moved =
       let none : seen d c (name.Entry k.id) ≡ None = ap (seen d c) id ∙ at in
       same_rising d e (name.Entry dir) u ks end front (Over y l m) is crumbs leads ((λ node g. absurd (never node g at)), seated.1, seated.2, seated.3) (moved.1 k link none)
@@ -199,16 +199,16 @@ module _ (old : Shown) (c : Resident) (home : Treap Row) (lasts : Name → Bool)
   moved_rising d e dir u ks end front q y l m k (Some (node.Entry x)) is crumbs leads seated once there link id at moved =
       put_rising d e dir u ks end front q y l m x is crumbs leads seated once there at (moved.0 k x link (ap (seen d c) id ∙ at))
 
-  pub rising_merged : (d e : Drafted) (dir : FileId) (u : Treap Row) (ks : List Crumb) (end : Option Link) → IsMerged old c home lasts d u ks end → Once u → lasts (name.Entry dir) ≡ true → IsMoved d e (crumb_above dir ks) end → CrumbsRising old c home lasts d e (name.Entry dir) u ks end
+  pub rising_merged : (d e : Drafted) (dir : FileId) (u : Treap Row) (ks : List Crumb) (end : Option Link) → IsMerged old c home lasts d u ks end → Once u → lasts (name.Entry dir) ≡ true → IsMoved d e (crumb_above dir ks) end → Rises old c home lasts d e (name.Entry dir) u ks end
   rising_merged d e dir u ks end s once there moved = by end refl
     where
-      by : (o : Option Link) → end ≡ o → CrumbsRising old c home lasts d e (name.Entry dir) u ks end
+      by : (o : Option Link) → end ≡ o → Rises old c home lasts d e (name.Entry dir) u ks end
       by None g =
           let w = leads_empty s.rest (ap led_by (sym g) ∙ s.leads.led_is) in
-          let L : Treap Row → Type 0 = λ w. CrumbLeads old c end w in
+          let L : Treap Row → Type 0 = λ w. LeadsToTop old c end w in
           same_rising d e (name.Entry dir) u ks end s.front Empty (s.is ∙ ap (plug s.front) w) s.crumbs (subst L w s.leads) tt (moved.2 g)
       by (Some k) g =
           let top = leads_over s.rest k (ap led_by (sym g) ∙ s.leads.led_is) in
-          let L : Treap Row → Type 0 = λ w. CrumbLeads old c end w in
+          let L : Treap Row → Type 0 = λ w. LeadsToTop old c end w in
           let S : Treap Row → Type 0 = λ w. Seated old c home lasts d s.q w in
           moved_rising d e dir u ks end s.front s.q top.row top.less top.more k (seen d c (entry_name top.row)) (s.is ∙ ap (plug s.front) top.is) s.crumbs (subst L top.is s.leads) (subst S top.is s.seated) once there g (ap name.Entry top.id_is) refl moved

@@ -18,7 +18,7 @@ use Rattle.iris_shape.proofs.Treaps.{every_of}
 use Rattle.iris_cache.specs.Resident.{Resident, held_node}
 use Rattle.iris_cache.specs.Drafted.{Drafted, drafted, seen, known_by, there_by, set_to, taken_away}
 use Rattle.iris_cache.specs.Pictures.{Holds, BodyHolds, WasHash, parent_after}
-use Rattle.iris_treepaths.specs.Crumbs.{CrumbLeads}
+use Rattle.iris_treepaths.specs.Crumbs.{LeadsToTop}
 use Rattle.iris_treepaths.specs.Paths.{entry_name}
 use Rattle.iris_treepaths.specs.Planted.{IsRowName, Planted, topped, with_top}
 use Rattle.iris_treepaths.specs.Rows.{Row, HasRows, IsCountable, unfolded_rows, up}
@@ -59,7 +59,7 @@ pub top_set : (d d2 e : Drafted) (c : Resident) (p : Name) (top : Option Link) �
     → (z : EntryFields) → seen d c p ≡ Some (node.Entry z) → drafted e p ≡ Some (set_to (parent_after d c p) (node.Entry (with_top top z)))
 top_set d d2 e c p top same set z at = set z (seen_same d d2 c p same ∙ at) ∙ ap (λ q. Some (set_to q (node.Entry (with_top top z)))) (parent_same d d2 c p same)
 
-top_holds : (old : Shown) (c : Resident) (u : Treap Row) (z : EntryFields) (top kept : Option Link) (m : Name) (h : Hash32) → CrumbLeads old c top u → z.body ≡ Dir kept → ((m : Name) (h : Hash32) → Holds (node.Entry z) m h → WasHash old c m h)
+top_holds : (old : Shown) (c : Resident) (u : Treap Row) (z : EntryFields) (top kept : Option Link) (m : Name) (h : Hash32) → LeadsToTop old c top u → z.body ≡ Dir kept → ((m : Name) (h : Hash32) → Holds (node.Entry z) m h → WasHash old c m h)
     → Holds (node.Entry (with_top top z)) m h → WasHash old c m h
 top_holds old c u z top kept m h leads body was (inl k) = was m h (inl k)
 top_holds old c u z top kept m h leads body was (inr (inl k)) = was m h (inr (inl k))

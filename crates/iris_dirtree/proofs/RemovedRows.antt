@@ -17,7 +17,7 @@ use Rattle.iris_cache.specs.Resident.{Resident}
 use Rattle.iris_cache.specs.Drafted.{Drafted, drafted, seen, set_to, taken_away}
 use Rattle.iris_cache.specs.Pictures.{IsLike, parent_after}
 use Rattle.iris_treepaths.specs.declared.paths.Crumb.{Crumb}
-use Rattle.iris_treepaths.specs.Crumbs.{CrumbsRising}
+use Rattle.iris_treepaths.specs.Crumbs.{Rises}
 use Rattle.iris_dirtree.specs.Descents.{FoundRow}
 use Rattle.iris_treepaths.specs.Hands.{IsRowNode, HoldsTrue}
 use Rattle.iris_treepaths.specs.Needs.{Listed}
@@ -127,7 +127,7 @@ module _ (old new : Shown) (key : List ℕ) (dir : FileId) (n : List ℕ) (d : D
   dir_outside = outside_none (name.Entry dir) (treap (up key) (rows_without (has_name n) all)) (λ k. not_dir (name.Entry dir) (after_before (name.Entry dir) k) refl)
 
   pub planted : (d2 d3 d4 : Drafted) (top kept_top : Option Link) → Holder (seen d c (name.Entry dir)) kept_top
-      → CrumbsRising old c (treap (up key) all) (λ m. is_some (seen d c m)) d d2 (name.Entry dir) (treap (up key) (rows_without (has_name n) all)) [] top
+      → Rises old c (treap (up key) all) (λ m. is_some (seen d c m)) d d2 (name.Entry dir) (treap (up key) (rows_without (has_name n) all)) [] top
       → ((z : EntryFields) → seen d2 c (name.Entry dir) ≡ Some (node.Entry z) → drafted d3 (name.Entry dir) ≡ Some (set_to (parent_after d2 c (name.Entry dir)) (node.Entry (with_top top z))))
       → ((q : Name) → same_name (name.Entry dir) q ≡ false → drafted d3 q ≡ drafted d2 q) → IsMade d3 d4 (name.Entry e.id) (Some taken_away)
       → Planted old dir (treap (up key) all) (treap (up key) (rows_without (has_name n) all)) d d4 c

@@ -21,7 +21,7 @@ use Rattle.iris_treepaths.specs.Crumbs.{IsCrumb}
 use Rattle.iris_dirtree.specs.Descents.{StandsBelow, Walked, FoundRow, IsStop, Walks}
 use Rattle.iris_cache.specs.Needs.{IsWanted}
 use Rattle.iris_treepaths.specs.Nodes.{link_toward, IsLinkLack}
-use Rattle.iris_treepaths.specs.Paths.{Frame, plug, entry_name, above, PassesRow, IsAmong}
+use Rattle.iris_treepaths.specs.Paths.{Frame, plug, entry_name, above, PassesBy, IsAmong}
 use Rattle.iris_treepaths.specs.Rows.{Row, unfolded_rows}
 use Rattle.iris_treepaths.specs.Ways.{Any, is_row_before, has_name}
 use Rattle.iris_treepaths.proofs.Crumbs.{crumbs_more}
@@ -140,7 +140,7 @@ module _ (old new : Shown) (c : Resident) (lasts : Name → Bool) (d : Drafted) 
           front = w.front ++ f ∷ [];
           rest = rest;
           is = w.is ∙ ap (plug w.front) (top.is ∙ sym (frame_is top.y top.l top.m b)) ∙ sym (plug_more w.front f rest);
-          passed = each_more (PassesRow n) w.front f w.passed (sym side.1, side.0);
+          passed = each_more (PassesBy n) w.front f w.passed (sym side.1, side.0);
           crumbs = crumbs_more old c t lasts d w.front ks f (record { node = e; right = b; hash = k.hash }) w.crumbs (crumb_of old new c t lasts d q k w.rest e b top);
           stands = subst S (sym (above_end p w.front f)) (stands_toward old new c t lasts d q (Some k) top.y top.l top.m e b top.stands top.at);
         };
@@ -170,7 +170,7 @@ module _ (old new : Shown) (c : Resident) (lasts : Name → Bool) (d : Drafted) 
 
 -- why a plan stops on its way towards a name
 pub walk_stop : (c : Resident) (d : Drafted) (n : List ℕ) (meets : Treap Row → List Row) (top : Option Link) (ks : List Crumb) (k : Link) (e : Short) → ((y : Row) (l m : Treap Row) → IsAmong y (meets (Over y l m)))
-    → ((r : Row) (fs : List Frame) (t : Treap Row) → Each (PassesRow n) fs → IsAmong r (meets t) → IsAmong r (meets (plug fs t)))
+    → ((r : Row) (fs : List Frame) (t : Treap Row) → Each (PassesBy n) fs → IsAmong r (meets t) → IsAmong r (meets (plug fs t)))
     → ((old new : Shown) (t : Treap Row) (lasts : Name → Bool) (p : Name) → StandsBelow old new c t lasts d p top t → Walked old new c lasts d p n t ks (Some k)) → IsLinkLack d c k e → IsStop (Walks meets d c top) d c e
 walk_stop c d n meets top ks k e first plugged walked lack =
     link_stop c d (Walks meets d c top) k e

@@ -13,9 +13,9 @@ use Rattle.iris_cache.specs.declared.held.Short.TheVariants.{Need, NoMemory}
 use Rattle.iris_cache.specs.Resident.{Resident}
 use Rattle.iris_cache.specs.Drafted.{Drafted, known, seen}
 use Rattle.iris_treepaths.specs.declared.paths.Crumb.{Crumb}
-use Rattle.iris_treepaths.specs.Crumbs.{Seat, Seated, CrumbLeads, AreCrumbs}
+use Rattle.iris_treepaths.specs.Crumbs.{Seat, Seated, LeadsToTop, AreCrumbs}
 use Rattle.iris_cache.specs.Needs.{IsWanted}
-use Rattle.iris_treepaths.specs.Paths.{Frame, plug, entry_name, above, PassesRow}
+use Rattle.iris_treepaths.specs.Paths.{Frame, plug, entry_name, above, PassesBy}
 use Rattle.iris_treepaths.specs.Rows.{Row, unfolded_rows, row_entry}
 use Rattle.iris_treepaths.specs.Ways.{Any, has_name}
 
@@ -33,7 +33,7 @@ WantsBelow old new c d (Over y l m) =
 
 -- a link leads to a treap in its place below q
 pub record StandsBelow (old new : Shown) (c : Resident) (home : Treap Row) (lasts : Name → Bool) (d : Drafted) (q : Name) (link : Option Link) (w : Treap Row) : Type 0 where
-  pub leads : CrumbLeads old c link w
+  pub leads : LeadsToTop old c link w
   pub wanted : IsWantedLink old new c d link
   pub below : WantsBelow old new c d w
   pub seated : Seated old c home lasts d q w
@@ -43,7 +43,7 @@ pub record Walked (old new : Shown) (c : Resident) (lasts : Name → Bool) (d : 
   pub front : List Frame
   pub rest : Treap Row
   pub is : t ≡ plug front rest
-  pub passed : Each (PassesRow n) front
+  pub passed : Each (PassesBy n) front
   pub crumbs : AreCrumbs old c t lasts d front kept
   pub stands : StandsBelow old new c t lasts d (above p front) link rest
 
@@ -54,7 +54,7 @@ pub record FoundRow (old new : Shown) (c : Resident) (lasts : Name → Bool) (d 
   pub less : Treap Row
   pub more : Treap Row
   pub is : t ≡ plug front (Over row less more)
-  pub passed : Each (PassesRow n) front
+  pub passed : Each (PassesBy n) front
   pub crumbs : AreCrumbs old c t lasts d front kept
   pub named : has_name n row ≡ true
   pub sees : seen d c (entry_name row) ≡ Some (node.Entry e)

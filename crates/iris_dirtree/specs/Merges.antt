@@ -1,5 +1,6 @@
 -- The merge of two treaps that stand beside a row that is taken out.
-use Rattle.std.specs.Prelude.{◌≡◌, Bool, true, false, List, Option}
+use Rattle.std.specs.Prelude.{◌≡◌, ℕ, Bool, true, false, List, Option, Some, None}
+use Rattle.iris_name.specs.Hmac.{priority}
 use Rattle.iris_name.specs.declared.name.Name.{Name}
 use Rattle.iris_node.specs.declared.node.Link.{Link}
 use Rattle.iris_node.specs.Trees.{Shown}
@@ -7,10 +8,21 @@ use Rattle.iris_shape.specs.Treap.{Treap, merge, way}
 use Rattle.iris_cache.specs.Resident.{Resident}
 use Rattle.iris_cache.specs.Drafted.{Drafted}
 use Rattle.iris_treepaths.specs.declared.paths.Crumb.{Crumb}
-use Rattle.iris_treepaths.specs.Crumbs.{Seated, CrumbLeads, AreCrumbs}
+use Rattle.iris_dirtree.specs.declared.removing.Ranked.{Ranked}
+use Rattle.iris_treepaths.specs.Crumbs.{Seated, LeadsToTop, AreCrumbs}
 use Rattle.iris_dirtree.specs.Descents.{StandsBelow}
 use Rattle.iris_treepaths.specs.Paths.{Frame, plug, IsAmong}
 use Rattle.iris_treepaths.specs.Rows.{Row}
+
+-- the link of a side, if there is one
+abbrev pub ranked_link : Option Ranked → Option Link
+ranked_link None = None
+ranked_link (Some r) = Some r.link
+
+-- its rank is the priority of the entry to which it leads, under an order key
+abbrev pub IsRanked : List ℕ → Option Ranked → Type 0
+IsRanked key None = Unit {0}
+IsRanked key (Some r) = r.rank ≡ priority key r.link.id.0
 
 -- On the way down two treaps that are to be merged to the treap u, crumbs were kept of the rows met, and links lead on.
 pub record Merging (old new : Shown) (c : Resident) (home : Treap Row) (lasts : Name → Bool) (d : Drafted) (up : Row → Row → Bool) (met : List Row) (u : Treap Row) (kept : List Crumb) (less more : Option Link) : Type 0 where
@@ -33,7 +45,7 @@ pub record IsMerged (old : Shown) (c : Resident) (home : Treap Row) (lasts : Nam
   pub q : Name
   pub is : u ≡ plug front rest
   pub crumbs : AreCrumbs old c home lasts d front kept
-  pub leads : CrumbLeads old c link rest
+  pub leads : LeadsToTop old c link rest
   pub seated : Seated old c home lasts d q rest
 
 -- a plan goes down two treaps that are to be merged, and meets these rows

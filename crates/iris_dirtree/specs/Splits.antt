@@ -23,7 +23,7 @@ TopBelow prio i Empty = Unit {0}
 TopBelow prio i (Over y l m) = beats prio i.0 y.id ≡ true
 
 -- The way down towards a name has come to where the entry of an id is to stand.
-pub record SplitReached (prio : ℕ → ℕ) (i : FileId) (old new : Shown) (c : Resident) (lasts : Name → Bool) (d : Drafted) (p : Name) (n : List ℕ) (t : Treap Row) (kept : List Crumb) (link : Option Link) : Type 0 where
+pub record SeatReached (prio : ℕ → ℕ) (i : FileId) (old new : Shown) (c : Resident) (lasts : Name → Bool) (d : Drafted) (p : Name) (n : List ℕ) (t : Treap Row) (kept : List Crumb) (link : Option Link) : Type 0 where
   pub walked : Walked old new c lasts d p n t kept link
   pub above : Each (λ f. beats prio i.0 f.row.id ≡ false) walked.front
   pub below : TopBelow prio i walked.rest

@@ -19,7 +19,7 @@ ghost use Rattle.iris_treepaths.specs.Hands.{IsRowNode, HoldsTrue};
 ghost use Rattle.iris_treepaths.specs.Needs.{IsDirectory, ListedInHand, IsMetShort};
 ghost use Rattle.iris_treepaths.specs.Planted.{Planted};
 ghost use Rattle.iris_treepaths.specs.Nodes.{between, LinksTo, IsPut, OnlyEntries};
-ghost use Rattle.iris_dirtree.specs.Splits.{SplitReached, IsSplit, Splits};
+ghost use Rattle.iris_dirtree.specs.Splits.{SeatReached, IsSplit, Splits};
 
 use iris_treepaths::recount;
 use crate::finding::longest_way;
@@ -76,7 +76,7 @@ fn find_seat(
 ) -> Result<Way, Short>
     requires linked { IsLinkToNamed top }
     ensures reached { IfOk result (λ r. (old new : Shown) → (t : Treap Row) → (lasts : SpecName → Bool) → (p : SpecName) → StandsBelow old new cache.now t lasts draft.now p top t
-        → SplitReached (priority keys.now.order) id old new cache.now lasts draft.now p name.now t r.path.items r.at) }
+        → SeatReached (priority keys.now.order) id old new cache.now lasts draft.now p name.now t r.path.items r.at) }
     ensures named { IfOk result (λ r. AreNamed r.path.items) }
     ensures linked { IfOk result (λ r. IsLinkToNamed r.at) }
     ensures short { IfErr result (IsStop (Walks (met_along name.now) draft.now cache.now top) draft.now cache.now) }

@@ -14,7 +14,7 @@ ghost use Rattle.iris_treepaths.specs.Counts.{IsEntryName};
 ghost use Rattle.iris_treepaths.specs.Crumbs.{AreNamed};
 ghost use Rattle.iris_dirtree.specs.Descents.{StandsBelow, FoundRow, IsStop, Walks};
 ghost use Rattle.iris_treepaths.specs.Hands.{Holding, HoldsTrue, IsRowNode};
-ghost use Rattle.iris_dirtree.specs.Merges.{Merging, IsMerged, Merges};
+ghost use Rattle.iris_dirtree.specs.Merges.{Merging, IsMerged, IsRanked, Merges, ranked_link};
 ghost use Rattle.iris_treepaths.specs.Needs.{IsDirectory, IsMetShort, Listed};
 ghost use Rattle.iris_treepaths.specs.Nodes.{IsPut, OnlyEntries, between};
 ghost use Rattle.iris_treepaths.specs.Planted.{Planted};
@@ -24,7 +24,7 @@ ghost use Rattle.iris_treepaths.specs.Ways.{Any, has_name, near_name};
 use iris_treepaths::recount;
 use crate::finding::longest_way;
 use iris_treepaths::nodes::{
-    copy_entry, entry_at, is_named, set_top, side, stands_above, stands_before, top_of,
+    copy_entry, entry_at, is_named, outranks, set_top, side, stands_before, top_of,
 };
 use iris_treepaths::paths::{Crumb, above, climb, keep};
 use iris_cache::{Cache, Draft, Short};
@@ -78,6 +78,37 @@ fn find_row(
     Err(Short::NoMemory)
 }
 
+// A link, and the priority of the entry to which it leads.
+#[derive(Clone, Copy)]
+struct Ranked {
+    link: Link,
+    rank: u64,
+}
+
+// A link, if there is one, with the priority of its entry.
+fn with_rank(keys: &Keys, link: Option<Link>) -> Option<Ranked>
+    ensures link { ranked_link result ≡ link }
+    ensures rank { IsRanked keys.now.order result }
+{
+    match link {
+        Some(link) => Some(Ranked {
+            link,
+            rank: priority(keys, link.id),
+        }),
+        None => None,
+    }
+}
+
+// The link by itself.
+fn link_of(side: Option<Ranked>) -> Option<Link>
+    ensures { result ≡ ranked_link side }
+{
+    match side {
+        Some(ranked) => Some(ranked.link),
+        None => None,
+    }
+}
+
 // The link whose entry stands above.
 fn chosen(right: bool, x: Link, y: Link) -> Link
     ensures { result ≡ cond right x y }
@@ -85,22 +116,11 @@ fn chosen(right: bool, x: Link, y: Link) -> Link
     if right { x } else { y }
 }
 
-// What is left of the entries of lesser names.
-fn rest_less(right: bool, node: &EntryNode, x: Link) -> Option<Link>
-    requires { 2 ≤ x.id.0 }
-    ensures link { result ≡ cond right node.now.right (Some x) }
-    ensures linked { IsLinkToNamed result }
+// The first side, or the second.
+fn chosen_side(first: bool, a: Option<Ranked>, b: Option<Ranked>) -> Option<Ranked>
+    ensures { result ≡ cond first a b }
 {
-    if right { node.right } else { Some(x) }
-}
-
-// What is left of the entries of greater names.
-fn rest_more(right: bool, node: &EntryNode, y: Link) -> Option<Link>
-    requires { 2 ≤ y.id.0 }
-    ensures link { result ≡ cond right (Some y) node.now.left }
-    ensures linked { IsLinkToNamed result }
-{
-    if right { Some(y) } else { node.left }
+    if first { a } else { b }
 }
 
 // Goes down the two treaps beside a row as they are to be merged.
@@ -120,20 +140,21 @@ fn merge_sides(
     ensures short { IfErr result (IsStop (Merges draft.now cache.now (up keys.now.order) path.items row.now.left row.now.right) draft.now cache.now) }
 {
     let mut path = path;
-    let mut less = row.left;
-    let mut more = row.right;
+    let mut less = with_rank(keys, row.left);
+    let mut more = with_rank(keys, row.right);
     for step in 0..longest_way(draft, cache) {
         let Some(x) = less else {
-            return Ok(Merged { path, end: more });
+            return Ok(Merged { path, end: link_of(more) });
         };
         let Some(y) = more else {
-            return Ok(Merged { path, end: less });
+            return Ok(Merged { path, end: link_of(less) });
         };
-        let right = stands_above(keys, priority(keys, x.id), x.id, y.id);
-        let link = chosen(right, x, y);
+        let right = outranks(x.rank, x.link.id, y.rank, y.link.id);
+        let link = chosen(right, x.link, y.link);
         let node = entry_at(alloc, draft, cache, link)?;
-        less = rest_less(right, &node, x);
-        more = rest_more(right, &node, y);
+        let next = with_rank(keys, side(&node, right));
+        less = chosen_side(right, next, less);
+        more = chosen_side(right, more, next);
         keep(&mut path, node, right, link.hash)?;
     }
     Err(Short::NoMemory)

@@ -17,7 +17,6 @@ use Rattle.iris_cache.specs.declared.held.Held.{Held}
 use Rattle.iris_cache.specs.Laws.{AreFormed, IsFormed, IsSide}
 use Rattle.iris_cache.specs.Resident.{Resident, held_node}
 use Rattle.iris_cache.specs.Pictures.{Pictures, IsLike, Holds, BodyHolds, LinkHolds, WasHash}
-use Rattle.iris_cache.specs.Needs.{IsRootName}
 use Rattle.iris_treepaths.specs.Rows.{IsRooted}
 use Rattle.iris_treepaths.specs.Nodes.{IsLinkIn}
 use Rattle.iris_treepaths.proofs.There.{got}

@@ -5,7 +5,7 @@ use Rattle.iris_name.specs.declared.name.Name.{Name}
 use Rattle.iris_node.specs.Unfolded.{blocks}
 use Rattle.iris_shape.specs.Treap.{Treap, Empty, Over, Every, Each, rows, low, high, insert, merge, remove, way}
 use Rattle.iris_shape.proofs.Treaps.{every_map}
-use Rattle.iris_treepaths.specs.Paths.{Frame, framed, plug, entry_name, above, PassesRow, IsAmong, Outside, Once, met_along, met_near}
+use Rattle.iris_treepaths.specs.Paths.{Frame, framed, plug, entry_name, above, PassesBy, IsAmong, Outside, Once, met_along, met_near}
 use Rattle.iris_treepaths.specs.Rows.{Row, unfolded_rows}
 use Rattle.iris_treepaths.specs.Ways.{is_row_before, has_name}
 use Rattle.iris_treepaths.proofs.Downs.{any_left, any_right}
@@ -102,14 +102,14 @@ near_over n y r l m b e f h =
 
 -- rows that are met below a step are met, so they are under a path
 module _ (n : List ℕ) (meets : Treap Row → List Row) (step : (y r : Row) (l m : Treap Row) (b : Bool) → has_name n y ≡ false → is_row_before n y ≡ b → IsAmong r (meets (cond b m l)) → IsAmong r (meets (Over y l m))) where
-  met_framed : (r : Row) (f : Frame) (t : Treap Row) → PassesRow n f → IsAmong r (meets t) → IsAmong r (meets (framed f t))
+  met_framed : (r : Row) (f : Frame) (t : Treap Row) → PassesBy n f → IsAmong r (meets t) → IsAmong r (meets (framed f t))
   met_framed r f t passes h = by f.right passes.0
     where
       by : (b : Bool) → b ≡ is_row_before n f.row → IsAmong r (meets (cond b (Over f.row f.other t) (Over f.row t f.other)))
       by true q = step f.row r f.other t true passes.1 (sym q) h
       by false q = step f.row r t f.other false passes.1 (sym q) h
 
-  pub met_plug : (r : Row) (fs : List Frame) (t : Treap Row) → Each (PassesRow n) fs → IsAmong r (meets t) → IsAmong r (meets (plug fs t))
+  pub met_plug : (r : Row) (fs : List Frame) (t : Treap Row) → Each (PassesBy n) fs → IsAmong r (meets t) → IsAmong r (meets (plug fs t))
   met_plug r [] t passed h = h
   met_plug r (f ∷ fs) t passed h = met_framed r f (plug fs t) passed.0 (met_plug r fs t passed.1 h)
 

@@ -16,7 +16,7 @@ use Rattle.iris_cache.specs.Resident.{Resident}
 use Rattle.iris_cache.specs.Drafted.{Drafted, drafted, seen}
 use Rattle.iris_cache.specs.Pictures.{Holds, IsLike, WasHash, parent_after}
 use Rattle.iris_treepaths.specs.declared.paths.Crumb.{Crumb}
-use Rattle.iris_treepaths.specs.Crumbs.{Seated, CrumbLeads, AreCrumbs, CrumbsRising, crumb_above}
+use Rattle.iris_treepaths.specs.Crumbs.{Seated, LeadsToTop, AreCrumbs, Rises, crumb_above}
 use Rattle.iris_treepaths.specs.Nodes.{IsPut, turned, LinksTo}
 use Rattle.iris_treepaths.specs.Paths.{Frame, framed, plug, entry_name, above, Outside, Once}
 use Rattle.iris_treepaths.specs.Planted.{IsRowName, Likes, Hang, StaysBelow}
@@ -49,7 +49,7 @@ module _ (old : Shown) (c : Resident) (home : Treap Row) (lasts : Name → Bool)
 
   pub rising_more : (d e f : Drafted) (dir : FileId) (u : Treap Row) (ks : List Crumb) (crumb : Crumb) (link : Option Link) (k : Link) → Once u → blocks (unfolded_rows u) < 2 ^ 64 → lasts (name.Entry dir) ≡ true
       → LinksTo (turned crumb.right link crumb.node) crumb.hash k → IsPut e f (Some (name.Entry (crumb_above dir ks))) (turned crumb.right link crumb.node)
-      → CrumbsRising old c home lasts d e (name.Entry dir) u (ks ++ crumb ∷ []) link → CrumbsRising old c home lasts d f (name.Entry dir) u ks (Some k)
+      → Rises old c home lasts d e (name.Entry dir) u (ks ++ crumb ∷ []) link → Rises old c home lasts d f (name.Entry dir) u ks (Some k)
   rising_more d e f dir u ks crumb link k once few there to put rise =
       let r = crumbs_last old c home lasts d rise.front ks crumb rise.crumbs in
       let x = r.last in
@@ -93,25 +93,25 @@ module _ (old : Shown) (c : Resident) (home : Treap Row) (lasts : Name → Bool)
   -- ---- how a path begins to rise
 
   -- with nothing at its end
-  pub rising_bare : (d : Drafted) (p : Name) (u : Treap Row) (fs : List Frame) (ks : List Crumb) → u ≡ plug fs Empty → AreCrumbs old c home lasts d fs ks → CrumbsRising old c home lasts d d p u ks None
+  pub rising_bare : (d : Drafted) (p : Name) (u : Treap Row) (fs : List Frame) (ks : List Crumb) → u ≡ plug fs Empty → AreCrumbs old c home lasts d fs ks → Rises old c home lasts d d p u ks None
   rising_bare d p u fs ks is crumbs =
       record { front = fs; done = Empty; is = is; crumbs = crumbs; leads = record { led_is = refl; hash = λ m h x. absurd x }; seated = tt; off = λ n o. refl; touched = λ n. inl refl; stays = λ n h. h }
 
   -- ---- the whole path has risen
 
   pub record Risen (d e : Drafted) (p : Name) (u : Treap Row) (link : Option Link) : Type 0 where
-    pub leads : CrumbLeads old c link u
+    pub leads : LeadsToTop old c link u
     pub seated : Seated old c home lasts e p u
     pub off : (n : Name) → Outside n u → drafted e n ≡ drafted d n
     pub touched : (n : Name) → (drafted e n ≡ drafted d n) ⊎ (lasts n ≡ true)
     pub stays : (n : Name) → IsSome (seen d c n) → IsSome (seen e c n)
 
-  pub risen : (d e : Drafted) (p : Name) (u : Treap Row) (link : Option Link) → CrumbsRising old c home lasts d e p u [] link → Risen d e p u link
+  pub risen : (d e : Drafted) (p : Name) (u : Treap Row) (link : Option Link) → Rises old c home lasts d e p u [] link → Risen d e p u link
   risen d e p u link r = by r.front r.is r.crumbs r.seated
     where
       by : (fs : List Frame) → u ≡ plug fs r.done → AreCrumbs old c home lasts d fs [] → Seated old c home lasts e (above p fs) r.done → Risen d e p u link
       by [] is k s =
-          let L : Treap Row → Type 0 = λ w. CrumbLeads old c link w in
+          let L : Treap Row → Type 0 = λ w. LeadsToTop old c link w in
           let S : Treap Row → Type 0 = λ w. Seated old c home lasts e p w in
           let O : Treap Row → Type 0 = λ w. (n : Name) → Outside n w → drafted e n ≡ drafted d n in
           record { leads = subst L (sym is) r.leads; seated = subst S (sym is) s; off = subst O (sym is) r.off; touched = r.touched; stays = r.stays }

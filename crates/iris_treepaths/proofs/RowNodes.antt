@@ -17,7 +17,7 @@ use Rattle.iris_cache.specs.Pictures.{Holds, IsLike, LinkHolds, WasHash}
 use Rattle.iris_treepaths.specs.Rows.{Row, Content, Directory, File, unfolded_rows, entry_of, row_entry}
 use Rattle.iris_treepaths.specs.Hands.{IsRowNode, HoldsTrue}
 use Rattle.iris_treepaths.specs.Nodes.{turned, between, node_blocks, LinksTo, own_blocks}
-use Rattle.iris_treepaths.specs.Crumbs.{CrumbLeads}
+use Rattle.iris_treepaths.specs.Crumbs.{LeadsToTop}
 use Rattle.iris_treepaths.specs.Paths.{Frame, framed, entry_name}
 use Rattle.iris_treepaths.proofs.Likes.{like_row}
 
@@ -117,7 +117,7 @@ turned_hashes old c e false k he hk m h (inr (inr x)) = he m h (inr (inr x))
 
 -- a link to an entry that is like a row's leads to the row
 pub leads_to : (old : Shown) (c : Resident) (y : Row) (l m : Treap Row) (e : EntryFields) (h : Hash32) (k : Link) → IsLike (Some (unfolded_rows (Over y l m))) (node.Entry e) → blocks (unfolded_rows (Over y l m)) < 2 ^ 64 → LinksTo e h k → WasHash old c (entry_name y) h
-    → CrumbLeads old c (Some k) (Over y l m)
+    → LeadsToTop old c (Some k) (Over y l m)
 leads_to old c y l m e h k like few links was =
     let a = unfolded_rows l in
     let b = unfolded_rows m in
@@ -148,10 +148,10 @@ turned_like f v w e k h i = by f.right h
     by false g = like_turned f.row (unfolded_rows v) (unfolded_rows f.other) (unfolded_rows w) e false k g i
 
 pub framed_leads : (old : Shown) (c : Resident) (f : Frame) (w : Treap Row) (e : EntryFields) (h : Hash32) (k : Link) → IsLike (Some (unfolded_rows (framed f w))) (node.Entry e) → blocks (unfolded_rows (framed f w)) < 2 ^ 64 → LinksTo e h k → WasHash old c (entry_name f.row) h
-    → CrumbLeads old c (Some k) (framed f w)
+    → LeadsToTop old c (Some k) (framed f w)
 framed_leads old c f w e h k like few to was = by f.right like few
   where
-    by : (r : Bool) → IsLike (Some (unfolded_rows (cond r (Over f.row f.other w) (Over f.row w f.other)))) (node.Entry e) → blocks (unfolded_rows (cond r (Over f.row f.other w) (Over f.row w f.other))) < 2 ^ 64 → CrumbLeads old c (Some k) (cond r (Over f.row f.other w) (Over f.row w f.other))
+    by : (r : Bool) → IsLike (Some (unfolded_rows (cond r (Over f.row f.other w) (Over f.row w f.other)))) (node.Entry e) → blocks (unfolded_rows (cond r (Over f.row f.other w) (Over f.row w f.other))) < 2 ^ 64 → LeadsToTop old c (Some k) (cond r (Over f.row f.other w) (Over f.row w f.other))
     by true g few2 = leads_to old c f.row f.other w e h k g few2 to was
     by false g few2 = leads_to old c f.row w f.other e h k g few2 to was
 

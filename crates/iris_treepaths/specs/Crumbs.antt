@@ -34,7 +34,7 @@ Seated old c home lasts d p (Over y l m) =
     × (seen d c (entry_name y) ≡ None → IsSubtreap (Over y l m) home) × Seated old c home lasts d (entry_name y) l × Seated old c home lasts d (entry_name y) m
 
 -- a link leads to the top of a treap
-pub record CrumbLeads (old : Shown) (c : Resident) (link : Option Link) (t : Treap Row) : Type 0 where
+pub record LeadsToTop (old : Shown) (c : Resident) (link : Option Link) (t : Treap Row) : Type 0 where
   pub led_is : led_by link ≡ led (unfolded_rows t)
   pub hash : (m : Name) (h : Hash32) → LinkHolds link m h → WasHash old c m h
 
@@ -66,12 +66,12 @@ abbrev pub AreNamed : List Crumb → Type 0
 AreNamed ks = Each (λ (k : Crumb). 2 ≤ k.node.id.0) ks
 
 -- Of a treap u, the end of a path is set up in a draft and linked to, and the crumbs of the path are left.
-pub record CrumbsRising (old : Shown) (c : Resident) (home : Treap Row) (lasts : Name → Bool) (d e : Drafted) (p : Name) (u : Treap Row) (left : List Crumb) (link : Option Link) : Type 0 where
+pub record Rises (old : Shown) (c : Resident) (home : Treap Row) (lasts : Name → Bool) (d e : Drafted) (p : Name) (u : Treap Row) (left : List Crumb) (link : Option Link) : Type 0 where
   pub front : List Frame
   pub done : Treap Row
   pub is : u ≡ plug front done
   pub crumbs : AreCrumbs old c home lasts d front left
-  pub leads : CrumbLeads old c link done
+  pub leads : LeadsToTop old c link done
   pub seated : Seated old c home lasts e (above p front) done
   -- nothing else is changed, and only what is seen in the end
   pub off : (n : Name) → Outside n done → drafted e n ≡ drafted d n

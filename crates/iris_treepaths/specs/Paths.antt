@@ -32,8 +32,8 @@ above p [] = p
 above p (f ∷ fs) = above (entry_name f.row) fs
 
 -- the path goes on towards a name that the row doesn't have
-abbrev pub PassesRow : List ℕ → Frame → Type 0
-PassesRow n f = (f.right ≡ is_row_before n f.row) × (has_name n f.row ≡ false)
+abbrev pub PassesBy : List ℕ → Frame → Type 0
+PassesBy n f = (f.right ≡ is_row_before n f.row) × (has_name n f.row ≡ false)
 
 -- a row is one of these
 abbrev pub IsAmong : Row → List Row → Type 0

@@ -40,8 +40,8 @@ pub fn is_named(a: &Text, b: &Text) -> bool
     !stands_before(a, b) && !stands_before(b, a)
 }
 
-// Whether priority p of id a stands above priority q of id b.
-fn outranks(p: u64, a: FileId, q: u64, b: FileId) -> bool
+/// Whether priority p of id a stands above priority q of id b.
+pub fn outranks(p: u64, a: FileId, q: u64, b: FileId) -> bool
     ensures { result ≡ outranks p a.0 q b.0 }
 {
     q < p || (p == q && a.0 < b.0)

@@ -9,7 +9,7 @@ ghost use Rattle.iris_node.specs.Unfolded.{blocks};
 ghost use Rattle.iris_shape.specs.Treap.{Treap};
 ghost use Rattle.iris_cache.specs.Drafted.{Drafted};
 ghost use Rattle.iris_cache.specs.Resident.{Resident};
-ghost use Rattle.iris_treepaths.specs.Crumbs.{AreNamed, CrumbsRising, crumb_above};
+ghost use Rattle.iris_treepaths.specs.Crumbs.{AreNamed, Rises, crumb_above};
 ghost use Rattle.iris_treepaths.specs.Nodes.{IsPut, LinksTo, OnlyEntries, turned};
 ghost use Rattle.iris_treepaths.specs.Paths.{Once};
 ghost use Rattle.iris_treepaths.specs.Rows.{Row, unfolded_rows};
@@ -76,7 +76,7 @@ pub fn climb(
     requires named { AreNamed path.items }
     requires linked { IsLinkToNamed end }
     ensures risen { IfOk result (λ k. (old : Shown) → (c : Resident) → (home u : Treap Row) → (lasts : SpecName → Bool) → (d : Drafted) → Once u → blocks (unfolded_rows u) < 2 ^ 64 → lasts (name.Entry dir) ≡ true
-        → CrumbsRising old c home lasts d draft.old (name.Entry dir) u path.items end → CrumbsRising old c home lasts d draft.new (name.Entry dir) u [] k) }
+        → Rises old c home lasts d draft.old (name.Entry dir) u path.items end → Rises old c home lasts d draft.new (name.Entry dir) u [] k) }
     ensures linked { IfOk result (λ k. IsLinkToNamed k) }
     ensures entries { OnOk result (OnlyEntries draft.old draft.new) }
 {

@@ -10,13 +10,13 @@ use Rattle.iris_shape.specs.Treap.{Treap, treap, rows_with}
 use Rattle.iris_cache.specs.Drafted.{seen}
 use Rattle.iris_cache.specs.Pictures.{WasHash}
 use Rattle.iris_cache.specs.Resident.{held_node}
-use Rattle.iris_treepaths.specs.Crumbs.{CrumbsRising, crumb_above}
+use Rattle.iris_treepaths.specs.Crumbs.{Rises, crumb_above}
 use Rattle.iris_dirtree.specs.Descents.{StandsBelow, Walks}
 use Rattle.iris_treepaths.specs.Needs.{IsMetShort, ListedInHand}
 use Rattle.iris_treepaths.specs.Nodes.{between}
 use Rattle.iris_treepaths.specs.Paths.{above, IsAmong, met_along}
 use Rattle.iris_treepaths.specs.Rows.{Row, up}
-use Rattle.iris_dirtree.specs.Splits.{SplitReached, Splits, seen_with}
+use Rattle.iris_dirtree.specs.Splits.{SeatReached, Splits, seen_with}
 use Rattle.iris_treepaths.specs.Ways.{along_name, is_row_before}
 use Rattle.iris_dirtree.proofs.TreapTops.{holder, stands_start, stop_short}
 use Rattle.iris_dirtree.proofs.InsertedRows.{Tables, see, stands, once_now, few, once_low, once_high, few_low, few_high, lower, higher, low_rising, high_rising, seat_rising, planted, hand_hash, seen_lasts, comes_lasts}
@@ -117,15 +117,15 @@ returns-clause-planted c = λ old new made x rows listed is_row holds tree count
     let u = treap (up key) (rows_with (is_row_before x.name) x rows) in
     let id_is = c.id_of-id.ensures in
     let all : Tables key dir x k d q old new made rows n = record { listed = listed; is_row = is_row; holds = holds; tree = tree; countable = countable; rearranged = re; named = c.in_ok-name.ensures ∙ (row_node_id x k is_row).1 } in
-    let R : FileId → Type 0 = λ j. SplitReached (priority key) j old new q lasts d root n t ks at in
+    let R : FileId → Type 0 = λ j. SeatReached (priority key) j old new q lasts d root n t ks at in
     let r = subst R id_is (c.in_ok-path.ensures.reached old new t lasts root (stands key dir x k d q old new made rows n all top top_is)) in
     let low = lower key dir x k d q old new made rows n all ks at r in
     let high = higher key dir x k d q old new made rows n all ks at r in
     let split = c.in_ok-low.ensures.split old new t r.walked.rest lasts (above root r.walked.front) r.walked.stands in
-    let L : FileId → Type 0 = λ j. lasts (name.Entry j) ≡ true → CrumbsRising old q t lasts d d (name.Entry j) low lows None → CrumbsRising old q t lasts d d1 (name.Entry j) low [] low_link in
+    let L : FileId → Type 0 = λ j. lasts (name.Entry j) ≡ true → Rises old q t lasts d d (name.Entry j) low lows None → Rises old q t lasts d d1 (name.Entry j) low [] low_link in
     let low_rise = subst L id_is (c.in_ok-low-2.ensures.risen old q t low lasts d (once_low key dir x k d q old new made rows n all ks at r) (few_low key dir x k d q old new made rows n all ks at r)) (comes_lasts d q k.id) (low_rising key dir x k d q old new made rows n all ks at r lows highs split) in
     let low_risen = risen old q t lasts d d1 here low low_link low_rise in
-    let H : FileId → Type 0 = λ j. lasts (name.Entry j) ≡ true → CrumbsRising old q t lasts d1 d1 (name.Entry j) high highs None → CrumbsRising old q t lasts d1 d2 (name.Entry j) high [] high_link in
+    let H : FileId → Type 0 = λ j. lasts (name.Entry j) ≡ true → Rises old q t lasts d1 d1 (name.Entry j) high highs None → Rises old q t lasts d1 d2 (name.Entry j) high [] high_link in
     let high_rise = subst H id_is (c.in_ok-high.ensures.risen old q t high lasts d1 (once_high key dir x k d q old new made rows n all ks at r) (few_high key dir x k d q old new made rows n all ks at r)) (comes_lasts d q k.id)
     (high_rising key dir x k d q old new made rows n all ks at r lows highs split d1 low_link low_risen) in
     let high_risen = risen old q t lasts d1 d2 here high high_link high_rise in

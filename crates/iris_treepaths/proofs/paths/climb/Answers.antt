@@ -2,7 +2,7 @@ use Rattle.std.proofs.Common.{◌≡◌, ◌≤◌, List, Some, ap, sym, ◌∙�
 use Rattle.iris_name.specs.declared.name.FileId.{FileId}
 use Rattle.iris_name.specs.declared.name.Name.TheVariants as name
 use Rattle.iris_treepaths.specs.declared.paths.Crumb.{Crumb}
-use Rattle.iris_treepaths.specs.Crumbs.{AreNamed, CrumbsRising, crumb_above}
+use Rattle.iris_treepaths.specs.Crumbs.{AreNamed, Rises, crumb_above}
 use Rattle.iris_treepaths.specs.Nodes.{IsPut, turned}
 use Rattle.iris_treepaths.proofs.Owned.{only_more}
 use Rattle.iris_treepaths.proofs.PathLaws.{each_front}
@@ -36,7 +36,7 @@ loop-crumb-preserved c =
       named = named.0;
       linked = subst N (sym id) named.1;
       risen = λ old q home u lasts d once few there start.
-          let S : List Crumb → Type 0 = λ ks. CrumbsRising old q home lasts d c.loop-crumb.draft (name.Entry c.args.dir) u ks link in
+          let S : List Crumb → Type 0 = λ ks. Rises old q home lasts d c.loop-crumb.draft (name.Entry c.args.dir) u ks link in
           rising_more old q home lasts d c.loop-crumb.draft c.rehang.new.draft c.args.dir u ks crumb link k once few there c.in_ok-rehang.ensures.link set
           (subst S c.in-Some.ensures.items (c.loop-crumb.invariant.risen old q home u lasts d once few there start));
       entries = only_more c.args.draft.now c.loop-crumb.draft c.rehang.new.draft p e c.loop-crumb.invariant.entries set;
