@@ -20,7 +20,7 @@ pub const MOST_CUT: u64 = 64;
 pub const LAST_AGE: u64 = 1_099_511_627_776;
 
 /// What resolving a path meets.
-#[derive(Clone, Copy, Debug, PartialEq, Eq)]
+#[derive(Clone, Copy, PartialEq, Eq)]
 pub enum Seen {
     /// A directory.
     ADirectory,

@@ -17,7 +17,7 @@ use std::alloc::Global;
 pub const PAGE_NAMES: u64 = 64;
 
 /// What stands at a path.
-#[derive(Debug, Drop)]
+#[derive(Drop)]
 pub enum Kind {
     /// A directory.
     Dir,
@@ -38,7 +38,7 @@ impl Kind {
 }
 
 /// A path, and what stands there.
-#[derive(Debug, Drop)]
+#[derive(Drop)]
 pub struct Entry {
     /// The path.
     pub path: Path,

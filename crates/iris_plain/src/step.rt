@@ -24,7 +24,7 @@ use std::alloc::Global;
 use std::marker::Model;
 
 /// The plain file system: what stands at each path, and the age.
-#[derive(Debug, Drop)]
+#[derive(Drop)]
 pub struct Plain {
     entries: Vec<Entry>,
     age: u64,

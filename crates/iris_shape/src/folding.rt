@@ -9,7 +9,7 @@ use sqlite_items::Boxed;
 use std::alloc::Global;
 
 /// The versions of a range of places: all are one version, or the two halves.
-#[derive(Debug, Drop)]
+#[derive(Drop)]
 pub enum Folded {
     One(u64),
     Two(Boxed<Folded>, Boxed<Folded>),

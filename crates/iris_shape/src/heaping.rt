@@ -13,7 +13,7 @@ use std::alloc::Global;
 
 /// The shape of a directory: no row, or a row above the shapes of the rows of lesser and of greater names. A row is named by
 /// its place in the list of rows.
-#[derive(Debug, Drop)]
+#[derive(Drop)]
 pub enum Shape {
     Empty,
     Over {

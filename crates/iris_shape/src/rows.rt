@@ -10,7 +10,7 @@ use iris_name::{FileId, NoMemory, Text};
 use std::alloc::Global;
 
 /// A row of a directory.
-#[derive(Debug, Drop)]
+#[derive(Drop)]
 pub struct Row {
     pub id: FileId,
     pub name: Text,
