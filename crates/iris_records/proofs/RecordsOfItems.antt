@@ -17,7 +17,7 @@ use Rattle.iris_node.specs.Unfolded.{Unfolded, Absent, Folder, link_to, node_of,
 use Rattle.iris_node.specs.declared.node.Body.TheVariants.{Dir}
 use Rattle.iris_node.specs.declared.node.Link.{Link}
 use Rattle.iris_node.specs.declared.node.Node.{Node}
-use Rattle.iris_node.specs.declared.node.Node.TheVariants.{Entry-node}
+use Rattle.iris_node.specs.declared.node.Node.TheVariants.{Entry as Entry-node}
 use Rattle.iris_shape.specs.Local.{either}
 use Rattle.iris_rows.specs.declared.item.Item.{Item}
 use Rattle.iris_records.specs.declared.entries.Told.{Told}
