@@ -61,7 +61,8 @@ pub fn record(
     block: &[u8],
 ) -> Result<Vec<u8>, NoMemory>
     requires { length block.now ≡ PAGE_LEN }
-    ensures { IfOk result (λ made. made.items ≡ record_of keys.now.block 2 place version block.now) }
+    ensures { IfOk result (λ made.
+        made.items ≡ record_of keys.now.block 2 place version block.now) }
 {
     let mut record = Vec::with_capacity(alloc, 4128)?;
     record.extend_from_slice(block)?;
@@ -119,7 +120,8 @@ pub fn judge(
     version: u64,
     answer: &Answer,
 ) -> Result<Reply, NoMemory>
-    ensures fits { IfOk result (λ reply. IsRightReply keys.now.block place version answer.now reply) }
+    ensures fits { IfOk result (λ reply.
+        IsRightReply keys.now.block place version answer.now reply) }
     ensures value { IfOk result IsReply }
 {
     let name = block_name(place);

@@ -127,7 +127,8 @@ impl<R: Files + Drop> FileStore<R> {
 
     // The file of a record.
     fn path(&self, alloc: Global, name: &Name) -> Result<String, AllocError>
-        ensures { IfOk result (λ path. string_bytes path ≡ self.now.folder ++ (codes "/blocks/" ++ name_text name.now)) }
+        ensures { IfOk result (λ path.
+            string_bytes path ≡ self.now.folder ++ (codes "/blocks/" ++ name_text name.now)) }
     {
         let folder = self.folder.as_str();
         format!(in alloc; "{folder}/blocks/{name}")

@@ -96,7 +96,8 @@ fn after<'a>(line: &'a [u8], front: &[u8]) -> Option<&'a [u8]>
 /// Reads a line, without its line feed: `write PLACE HEX` or `read PLACE` with single blanks. PLACE is below
 /// 65,536 in decimal, and HEX is 1 to 4,096 bytes in digits of either case.
 pub fn read_line(alloc: Global, line: &[u8]) -> Result<Option<Line>, NoMemory>
-    ensures some { IfOk result (λ read. IfSome read (λ found. SpellsLine line.now (request_of found))) }
+    ensures some { IfOk result (λ read.
+        IfSome read (λ found. SpellsLine line.now (request_of found))) }
     ensures range { IfOk result (λ read. IfSome read IsInRange) }
     ensures none { IfOk result (λ read. IfNone read (SpellsNone line.now)) }
 {
@@ -118,7 +119,8 @@ pub fn read_line(alloc: Global, line: &[u8]) -> Result<Option<Line>, NoMemory>
 /// Reads the lines of a script. Blanks more or less, empty lines, carriage returns and comments make a line no
 /// request.
 pub fn read_lines(alloc: Global, script: &[u8]) -> Result<Vec<Line>, LineError>
-    ensures lines { IfOk result (λ lines. AllSpell (lines_of script.now) (map request_of lines.items)) }
+    ensures lines { IfOk result (λ lines.
+        AllSpell (lines_of script.now) (map request_of lines.items)) }
     ensures range { IfOk result (λ lines. All IsInRange lines.items) }
     ensures count { IfOk result (λ lines. vec_len lines ≤ length script.now) }
     ensures bad { IfErr result (IsLineFault (lines_of script.now)) }

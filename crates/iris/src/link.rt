@@ -17,7 +17,8 @@ pub fn put<S: Store>(
     name: &Name,
     bytes: &[u8],
 ) -> Result<bool, NoMemory>
-    ensures traffic { IfOk result (λ ok. S.traffic link.new ≡ appended (S.traffic link.old) (Put name.now bytes.now ok)) }
+    ensures traffic { IfOk result (λ ok.
+        S.traffic link.new ≡ appended (S.traffic link.old) (Put name.now bytes.now ok)) }
     ensures err { OnErr result (S.traffic link.new ≡ S.traffic link.old) }
     ensures later { S.faults link.old ≤ S.faults link.new }
 {
@@ -30,10 +31,12 @@ pub fn put<S: Store>(
 
 /// What the store answers to a get.
 pub fn get<S: Store>(alloc: Global, link: &mut S, name: &Name) -> Result<Answer, NoMemory>
-    ensures traffic { IfOk result (λ answer. S.traffic link.new ≡ appended (S.traffic link.old) (Got name.now answer)) }
+    ensures traffic { IfOk result (λ answer.
+        S.traffic link.new ≡ appended (S.traffic link.old) (Got name.now answer)) }
     ensures err { OnErr result (S.traffic link.new ≡ S.traffic link.old) }
     ensures later { S.faults link.old ≤ S.faults link.new }
-    ensures cause { IfOk result (λ answer. IsFailure answer → IsFault (S.faults link.old) (S.faults link.new)) }
+    ensures cause { IfOk result (λ answer. IsFailure answer →
+        IsFault (S.faults link.old) (S.faults link.new)) }
 {
     match link.get(alloc, name) {
         Ok(Some(bytes)) => Ok(Answer::Given(bytes)),

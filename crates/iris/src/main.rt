@@ -52,7 +52,8 @@ const VERSION: &str = "iris 0.1.0";
 
 // What the run printed nothing for, as a line on standard error.
 fn complaint(alloc: Global, status: u8, line: u64) -> Result<Option<String>, AllocError>
-    ensures { IfOk result (λ told. option_map (λ text. string_bytes text) told ≡ complaint_of status line) }
+    ensures { IfOk result (λ told.
+        option_map (λ text. string_bytes text) told ≡ complaint_of status line) }
 {
     let text = match (status, line) {
         (2, 0) => String::from_str(alloc, "iris: bad words")?,
@@ -78,7 +79,8 @@ fn arguments(rt: &HostRuntime) -> io::Result<Vec<String>> {
 
 // The words as texts that are lent.
 fn lent<'a>(alloc: Global, words: &'a [String]) -> Result<Vec<&'a str>, AllocError>
-    ensures { IfOk result (λ texts. map (λ text. text.now) texts.items ≡ map (λ word. string_bytes word) words.now) }
+    ensures { IfOk result (λ texts.
+        map (λ text. text.now) texts.items ≡ map (λ word. string_bytes word) words.now) }
 {
     let mut texts = Vec::new(alloc);
     for word in words {
@@ -90,7 +92,8 @@ fn lent<'a>(alloc: Global, words: &'a [String]) -> Result<Vec<&'a str>, AllocErr
 // Serves block registers over a folder, and answers status and line.
 fn serve_registers(rt: &HostRuntime, folder: &str, words: &[&str]) -> Result<(u8, u64), AllocError>
     ensures statuses { IfOk result (λ ended. IsStatus ended.0) }
-    ensures bad_words { IfOk result (λ ended. ((ended.0 ≡ 2) × (ended.1 ≡ 0)) ↔ HasNoKey (map (λ w. w.now) words.now)) }
+    ensures bad_words { IfOk result (λ ended. ((ended.0 ≡ 2) × (ended.1 ≡ 0)) ↔
+        HasNoKey (map (λ w. w.now) words.now)) }
 {
     let alloc = rt.alloc();
     let folder = Text::of(String::from_str(alloc, folder)?);
@@ -117,7 +120,8 @@ fn serve_registers(rt: &HostRuntime, folder: &str, words: &[&str]) -> Result<(u8
 // Serves the words over a folder, and answers status and line.
 fn serve(rt: &HostRuntime, folder: &str, words: &[&str]) -> Result<(u8, u64), AllocError>
     ensures statuses { IfOk result (λ ended. IsStatus ended.0) }
-    ensures bad_words { IfOk result (λ ended. ((ended.0 ≡ 2) × (ended.1 ≡ 0)) ↔ HasNoCommand (map (λ w. w.now) words.now)) }
+    ensures bad_words { IfOk result (λ ended. ((ended.0 ≡ 2) × (ended.1 ≡ 0)) ↔
+        HasNoCommand (map (λ w. w.now) words.now)) }
 {
     let Some(_) = read_command("plain", words) else {
         return serve_registers(rt, folder, words);

@@ -77,7 +77,11 @@ impl MemSource {
     /// These bytes, of which a read gives at most so many. The n-th read, counted from 1, fails where n is in the list.
     pub fn new(bytes: Vec<u8>, most: u32, fail: Vec<u64>) -> MemSource
         requires { 0 < most }
-        ensures { result ≡ record { left = bytes.items; most = most; tally = record { failing = fail.items; calls = 0; faults = 0 } } }
+        ensures { result ≡ record {
+          left = bytes.items;
+          most = most;
+          tally = record { failing = fail.items; calls = 0; faults = 0 };
+        } }
     {
         MemSource {
             bytes,
@@ -95,12 +99,15 @@ impl Source for MemSource {
 
     fn read(&mut self, into: &mut [u8]) -> Result<usize, Failed>
         ensures count { IfOk result (λ n. n ≤ length into.old) }
-        ensures piece { IfOk result (λ n. IsPiece (Some self.old.left) (Some self.new.left) (length into.old) n (take n into.new)) }
+        ensures piece { IfOk result (λ n. IsPiece (Some self.old.left)
+            (Some self.new.left) (length into.old) n (take n into.new)) }
         ensures later { self.old.tally.faults ≤ self.new.tally.faults }
         ensures cause { OnErr result (IsFault self.old.tally.faults self.new.tally.faults) }
-        ensures answer { CallAnswers (tally_fails_next self.old.tally) (taken_next self.old (length into.old)) result }
+        ensures answer { CallAnswers (tally_fails_next self.old.tally)
+            (taken_next self.old (length into.old)) result }
         ensures tape { self.new ≡ after_read self.old (length into.old) }
-        ensures into { let n = taken_next self.old (length into.old) in into.new ≡ take n self.old.left ++ drop n into.old }
+        ensures into { let n = taken_next self.old (length into.old) in into.new ≡
+            take n self.old.left ++ drop n into.old }
     {
         if self.tally.fails(false) {
             return Err(Failed);
@@ -135,7 +142,11 @@ impl Model for MemSink {
 impl MemSink {
     /// Room for so many bytes. The n-th write, counted from 1, fails where n is in the list, or where it doesn't fit what is left.
     pub fn new(alloc: Global, room: u64, fail: Vec<u64>) -> Result<MemSink, NoMemory>
-        ensures { IfOk result (λ sink. sink ≡ record { written = []; room = room; tally = record { failing = fail.items; calls = 0; faults = 0 } }) }
+        ensures { IfOk result (λ sink. sink ≡ record {
+          written = [];
+          room = room;
+          tally = record { failing = fail.items; calls = 0; faults = 0 };
+        }) }
     {
         Ok(MemSink {
             bytes: Vec::with_capacity(alloc, room as usize)?,
@@ -158,8 +169,10 @@ impl Sink for MemSink {
     ghost written = { λ s. Some s.written };
 
     fn write(&mut self, piece: &[u8]) -> Result<(), Failed>
-        ensures ok { OnOk result (Some self.new.written ≡ extended (Some self.old.written) piece.now) }
-        ensures err { OnErr result ((n : ℕ) × (Some self.new.written ≡ extended (Some self.old.written) (take n piece.now))) }
+        ensures ok { OnOk result (Some self.new.written ≡
+            extended (Some self.old.written) piece.now) }
+        ensures err { OnErr result ((n : ℕ) ×
+            (Some self.new.written ≡ extended (Some self.old.written) (take n piece.now))) }
         ensures later { self.old.tally.faults ≤ self.new.tally.faults }
         ensures cause { OnErr result (IsFault self.old.tally.faults self.new.tally.faults) }
         ensures answer { CallAnswers (write_fails self.old piece.now) tt result }

@@ -17,7 +17,8 @@ pub trait Source {
     /// Reads the next bytes into the front of a slice, and answers how many; 0 for a slice that isn't empty is the end.
     fn read(&mut self, into: &mut [u8]) -> Result<usize, Failed>
         ensures count { IfOk result (λ n. n ≤ length into.old) }
-        ensures piece { IfOk result (λ n. IsPiece (left self.old) (left self.new) (length into.old) n (take n into.new)) }
+        ensures piece { IfOk result (λ n.
+            IsPiece (left self.old) (left self.new) (length into.old) n (take n into.new)) }
         ensures later { faults self.old ≤ faults self.new }
         ensures cause { OnErr result (IsFault (faults self.old) (faults self.new)) };
 }
@@ -33,7 +34,8 @@ pub trait Sink {
     /// Writes a piece. After a failure the first bytes of it were written, so many as isn't said.
     fn write(&mut self, piece: &[u8]) -> Result<(), Failed>
         ensures ok { OnOk result (written self.new ≡ extended (written self.old) piece.now) }
-        ensures err { OnErr result ((n : ℕ) × (written self.new ≡ extended (written self.old) (take n piece.now))) }
+        ensures err { OnErr result ((n : ℕ) ×
+            (written self.new ≡ extended (written self.old) (take n piece.now))) }
         ensures later { faults self.old ≤ faults self.new }
         ensures cause { OnErr result (IsFault (faults self.old) (faults self.new)) };
 }

@@ -45,7 +45,8 @@ fn absent(alloc: Global, n: usize) -> Result<Vec<Option<Page>>, NoMemory>
 impl Places {
     /// Nothing was written.
     pub fn new(alloc: Global) -> Result<Places, NoMemory>
-        ensures sizes { IfOk result (λ a. (length a.versions.items ≡ PLACES) × (length a.kept.items ≡ PLACES)) }
+        ensures sizes { IfOk result (λ a. (length a.versions.items ≡ PLACES) ×
+            (length a.kept.items ≡ PLACES)) }
         ensures counter { IfOk result (λ a. a.counter ≡ 0) }
         ensures versions { IfOk result (λ a. (p : ℕ) → slice_index a.versions.items p ≡ 0) }
         ensures kept { IfOk result (λ a. (p : ℕ) → slice_index_or a.kept.items p None ≡ None) }
@@ -62,7 +63,8 @@ impl Places {
         requires versions { place < length self.old.versions.items }
         requires kept { place < length self.old.kept.items }
         ensures counter { self.new.counter ≡ version }
-        ensures versions { self.new.versions.items ≡ slice_set self.old.versions.items place version }
+        ensures versions { self.new.versions.items ≡
+            slice_set self.old.versions.items place version }
         ensures kept { self.new.kept.items ≡ slice_set self.old.kept.items place kept }
     {
         self.counter = version;

@@ -85,7 +85,8 @@ fn serve_calls(
 
 // Appends the lines of one client's replies, numbered from 1.
 fn print_client(text: &mut Vec<u8>, client: u32, replies: &[(u32, Reply)]) -> Result<(), NoMemory>
-    ensures { OnOk result (text.new.items ≡ text.old.items ++ printed client (said_to client replies.now)) }
+    ensures { OnOk result (text.new.items ≡
+        text.old.items ++ printed client (said_to client replies.now)) }
 {
     let mut number: u64 = 0;
     for reply in replies {
@@ -115,7 +116,9 @@ fn run<R: Source, W: Sink>(
     source: &mut R,
     out: &mut W,
 ) -> Result<(), Halt>
-    ensures { IsPlainEnd (map (λ w. w.now) words.now) (R.left source.old) (R.left source.new) (R.faults source.old) (R.faults source.new) (W.written out.old) (W.written out.new) (W.faults out.old) (W.faults out.new) result }
+    ensures { IsPlainEnd (map (λ w. w.now) words.now)
+        (R.left source.old) (R.left source.new) (R.faults source.old) (R.faults source.new)
+        (W.written out.old) (W.written out.new) (W.faults out.old) (W.faults out.new) result }
 {
     let Some(master) = read_command("plain", words) else {
         return Err(Halt::Stopped(Stop::BadWords));
@@ -155,14 +158,19 @@ pub fn plain_run<R: Source, W: Sink>(
     out: &mut W,
 ) -> (u8, u64)
     // The script was read to its end, each reply is the table's at its place, and what was written is their printing.
-    ensures printed { result.0 ≡ 0 → IsPlainPrinted (map (λ w. w.now) words.now) (R.left script.old) (R.left script.new) (W.written out.old) (W.written out.new) }
-    ensures cut { result.0 ≡ 4 → IsCutShort (map (λ w. w.now) words.now) (R.left script.old) (R.left script.new) (W.written out.old) (W.written out.new) }
+    ensures printed { result.0 ≡ 0 → IsPlainPrinted (map (λ w. w.now) words.now)
+        (R.left script.old) (R.left script.new) (W.written out.old) (W.written out.new) }
+    ensures cut { result.0 ≡ 4 → IsCutShort (map (λ w. w.now) words.now)
+        (R.left script.old) (R.left script.new) (W.written out.old) (W.written out.new) }
     ensures silent { result.0 ≢ 0 → result.0 ≢ 4 → W.written out.new ≡ W.written out.old }
 
     // Each status, by its cause.
-    ensures bad_words { ((result.0 ≡ 2) × (result.1 ≡ 0)) ↔ AreNotPlain (map (λ w. w.now) words.now) }
-    ensures bad_line { result.0 ≡ 2 → result.1 ≢ 0 → FirstLine IsNoRequest (R.left script.old) result.1 }
-    ensures far_client { result.0 ≡ 7 → result.1 ≢ 0 → FirstLine NamesFarClient (R.left script.old) result.1 }
+    ensures bad_words { ((result.0 ≡ 2) × (result.1 ≡ 0)) ↔
+        AreNotPlain (map (λ w. w.now) words.now) }
+    ensures bad_line { result.0 ≡ 2 →
+        result.1 ≢ 0 → FirstLine IsNoRequest (R.left script.old) result.1 }
+    ensures far_client { result.0 ≡ 7 →
+        result.1 ≢ 0 → FirstLine NamesFarClient (R.left script.old) result.1 }
     ensures too_long { result ≡ (7, 0) → HasMoreThan (R.left script.old) SCRIPT_LEN }
     ensures unread { result.0 ≡ 3 → IsFault (R.faults script.old) (R.faults script.new) }
     ensures unwritten { result.0 ≡ 4 → IsFault (W.faults out.old) (W.faults out.new) }
@@ -170,10 +178,25 @@ pub fn plain_run<R: Source, W: Sink>(
 
     // Over an outside without faults: a script of calls is served, a first bad line is told, and so is a script that is too
     // long; want of memory aside.
-    ensures served { (master bytes : List ℕ) (calls : List (ℕ × SpecRequest)) → ArePlain (map (λ w. w.now) words.now) master → R.left script.old ≡ Some bytes → length bytes ≤ SCRIPT_LEN → AllAsk (script_lines bytes) calls → (IsFault (R.faults script.old) (R.faults script.new) → ⊥) → (IsFault (W.faults out.old) (W.faults out.new) → ⊥) → (result.0 ≡ 0) ⊎ (result.0 ≡ 8) }
-    ensures tells_line { (master bytes : List ℕ) (n : ℕ) → ArePlain (map (λ w. w.now) words.now) master → R.left script.old ≡ Some bytes → length bytes ≤ SCRIPT_LEN → IsFirst IsNoRequest (script_lines bytes) n → (IsFault (R.faults script.old) (R.faults script.new) → ⊥) → (result ≡ (2, n)) ⊎ (result.0 ≡ 8) }
-    ensures tells_client { (master bytes : List ℕ) (n : ℕ) → ArePlain (map (λ w. w.now) words.now) master → R.left script.old ≡ Some bytes → length bytes ≤ SCRIPT_LEN → IsFirst NamesFarClient (script_lines bytes) n → (IsFault (R.faults script.old) (R.faults script.new) → ⊥) → (result ≡ (7, n)) ⊎ (result.0 ≡ 8) }
-    ensures tells_length { (master bytes : List ℕ) → ArePlain (map (λ w. w.now) words.now) master → R.left script.old ≡ Some bytes → SCRIPT_LEN < length bytes → (IsFault (R.faults script.old) (R.faults script.new) → ⊥) → (result ≡ (7, 0)) ⊎ (result.0 ≡ 8) }
+    ensures served { (master bytes : List ℕ) (calls : List (ℕ × SpecRequest)) →
+        ArePlain (map (λ w. w.now) words.now) master → R.left script.old ≡ Some bytes →
+        length bytes ≤ SCRIPT_LEN → AllAsk (script_lines bytes) calls →
+        (IsFault (R.faults script.old) (R.faults script.new) → ⊥) →
+        (IsFault (W.faults out.old) (W.faults out.new) → ⊥) → (result.0 ≡ 0) ⊎ (result.0 ≡ 8) }
+    ensures tells_line { (master bytes : List ℕ) (n : ℕ) →
+        ArePlain (map (λ w. w.now) words.now) master → R.left script.old ≡ Some bytes →
+        length bytes ≤ SCRIPT_LEN → IsFirst IsNoRequest (script_lines bytes) n →
+        (IsFault (R.faults script.old) (R.faults script.new) → ⊥) →
+        (result ≡ (2, n)) ⊎ (result.0 ≡ 8) }
+    ensures tells_client { (master bytes : List ℕ) (n : ℕ) →
+        ArePlain (map (λ w. w.now) words.now) master → R.left script.old ≡ Some bytes →
+        length bytes ≤ SCRIPT_LEN → IsFirst NamesFarClient (script_lines bytes) n →
+        (IsFault (R.faults script.old) (R.faults script.new) → ⊥) →
+        (result ≡ (7, n)) ⊎ (result.0 ≡ 8) }
+    ensures tells_length { (master bytes : List ℕ) →
+        ArePlain (map (λ w. w.now) words.now) master → R.left script.old ≡ Some bytes →
+        SCRIPT_LEN < length bytes → (IsFault (R.faults script.old) (R.faults script.new) → ⊥) →
+        (result ≡ (7, 0)) ⊎ (result.0 ≡ 8) }
 {
     told(run(alloc, words, script, out))
 }

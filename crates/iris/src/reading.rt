@@ -76,9 +76,11 @@ fn read_within<R: Source>(
 ) -> Result<Vec<u8>, ReadError>
     requires piece { 0 < length piece.old }
     requires most { most < usize.MAX }
-    ensures whole { IfOk result (λ bytes. IsAllOf (R.left source.old) (R.left source.new) bytes.items) }
+    ensures whole { IfOk result (λ bytes.
+        IsAllOf (R.left source.old) (R.left source.new) bytes.items) }
     ensures len { IfOk result (λ bytes. length bytes.items ≤ most) }
-    ensures cause { IfErr result (λ e. MayEnd (R.left source.old) (R.faults source.old) (R.faults source.new) most e) }
+    ensures cause { IfErr result (λ e.
+        MayEnd (R.left source.old) (R.faults source.old) (R.faults source.new) most e) }
     ensures later { R.faults source.old ≤ R.faults source.new }
 {
     let mut bytes = Vec::new(alloc);
@@ -97,9 +99,11 @@ fn read_within<R: Source>(
 
 /// Reads a source to its end, at most `SCRIPT_LEN` bytes. After an error it isn't said how many bytes the source still has.
 pub fn read_all<R: Source>(alloc: Global, source: &mut R) -> Result<Vec<u8>, ReadError>
-    ensures whole { IfOk result (λ bytes. IsAllOf (R.left source.old) (R.left source.new) bytes.items) }
+    ensures whole { IfOk result (λ bytes.
+        IsAllOf (R.left source.old) (R.left source.new) bytes.items) }
     ensures len { IfOk result (λ bytes. length bytes.items ≤ SCRIPT_LEN) }
-    ensures cause { IfErr result (λ e. MayEnd (R.left source.old) (R.faults source.old) (R.faults source.new) SCRIPT_LEN e) }
+    ensures cause { IfErr result (λ e.
+        MayEnd (R.left source.old) (R.faults source.old) (R.faults source.new) SCRIPT_LEN e) }
     ensures later { R.faults source.old ≤ R.faults source.new }
 {
     let mut piece = room(alloc, PIECE_LEN)?;

@@ -38,10 +38,12 @@ pub struct Session {
 
 impl Session {
     fn new(alloc: Global) -> Result<Session, NoMemory>
-        ensures sizes { IfOk result (λ s. (length s.places.versions.items ≡ 65536) × (length s.places.kept.items ≡ 65536)) }
+        ensures sizes { IfOk result (λ s. (length s.places.versions.items ≡ 65536) ×
+            (length s.places.kept.items ≡ 65536)) }
         ensures counts { IfOk result (λ s. (s.places.counter ≡ 0) × (s.noted ≡ 0)) }
         ensures versions { IfOk result (λ s. (p : ℕ) → slice_index s.places.versions.items p ≡ 0) }
-        ensures kept { IfOk result (λ s. (p : ℕ) → slice_index_or s.places.kept.items p None ≡ None) }
+        ensures kept { IfOk result (λ s. (p : ℕ) →
+            slice_index_or s.places.kept.items p None ≡ None) }
         ensures replies { IfOk result (λ s. s.replies ≡ silent) }
     {
         Ok(Session {
@@ -55,7 +57,8 @@ impl Session {
     fn enter<G: Log>(&mut self, log: &mut G, request: Request, reply: Reply) -> Result<(), NoMemory>
         requires room { 0 < G.spare log.old }
         requires few { (self.old.replies.count < 2 ^ 32) × (self.old.noted < 2 ^ 32) }
-        ensures notes { OnOk result (G.notes log.new ≡ appended (G.notes log.old) (Call 1 request reply)) }
+        ensures notes { OnOk result (G.notes log.new ≡
+            appended (G.notes log.old) (Call 1 request reply)) }
         ensures replies { OnOk result (self.new.replies ≡ saying self.old.replies reply) }
         ensures noted { OnOk result (self.new.noted ≡ self.old.noted + 1) }
         ensures room_left { OnOk result (G.spare log.new + 1 ≡ G.spare log.old) }
@@ -76,9 +79,12 @@ impl Session {
     // The block of a place, where no get is needed: it was never written, or the store failed to take it.
     fn at_hand(&self, alloc: Global, place: u32) -> Result<Option<Bytes>, NoMemory>
         requires place { place < 65536 }
-        requires sizes { (length self.now.places.versions.items ≡ 65536) × (length self.now.places.kept.items ≡ 65536) }
+        requires sizes { (length self.now.places.versions.items ≡ 65536) ×
+            (length self.now.places.kept.items ≡ 65536) }
         ensures bytes { IfOk result (λ found. IfSome found AreBytes) }
-        ensures found { IfOk result (λ found. found ≡ (if slice_index self.now.places.versions.items place == 0 then Some block_of_zeros else slice_index_or self.now.places.kept.items place None)) }
+        ensures found { IfOk result (λ found.
+            found ≡ (if slice_index self.now.places.versions.items place == 0
+            then Some block_of_zeros else slice_index_or self.now.places.kept.items place None)) }
     {
         if self.places.versions[place as usize] == 0 {
             return Ok(Some(zeros(alloc)?));
@@ -107,8 +113,11 @@ fn write_place<S: Store, G: Log>(
     requires few { IsFew session.old }
     ensures ready { OnOk result (IsSessionReady keys.now.block session.new (G.notes log.new)) }
     ensures more { OnOk result (IsOneMore session.old session.new) }
-    ensures serves { OnOk result (Serves (write_of place bytes ∷ []) (G.notes log.old) (G.notes log.new) (S.traffic link.old) (S.traffic link.new) (S.faults link.old) (S.faults link.new) session.old.replies session.new.replies) }
-    ensures stops { OnErr result (Stops keys.now.block (write_of place bytes ∷ []) (G.notes log.old) (G.notes log.new) (S.traffic link.old) (S.traffic link.new)) }
+    ensures serves { OnOk result (Serves (write_of place bytes ∷ []) (G.notes log.old)
+        (G.notes log.new) (S.traffic link.old) (S.traffic link.new)
+        (S.faults link.old) (S.faults link.new) session.old.replies session.new.replies) }
+    ensures stops { OnErr result (Stops keys.now.block (write_of place bytes ∷ []) (G.notes log.old)
+        (G.notes log.new) (S.traffic link.old) (S.traffic link.new)) }
 {
     log.ready(2)?;
     let block = fill(bytes)?;
@@ -151,8 +160,11 @@ fn fetch_place<S: Store, G: Log>(
     requires few { IsFew session.old }
     ensures ready { OnOk result (IsSessionReady keys.now.block session.new (G.notes log.new)) }
     ensures more { OnOk result (IsOneMore session.old session.new) }
-    ensures serves { OnOk result (Serves (read_of place ∷ []) (G.notes log.old) (G.notes log.new) (S.traffic link.old) (S.traffic link.new) (S.faults link.old) (S.faults link.new) session.old.replies session.new.replies) }
-    ensures stops { OnErr result (Stops keys.now.block (read_of place ∷ []) (G.notes log.old) (G.notes log.new) (S.traffic link.old) (S.traffic link.new)) }
+    ensures serves { OnOk result (Serves (read_of place ∷ []) (G.notes log.old)
+        (G.notes log.new) (S.traffic link.old) (S.traffic link.new)
+        (S.faults link.old) (S.faults link.new) session.old.replies session.new.replies) }
+    ensures stops { OnErr result (Stops keys.now.block (read_of place ∷ []) (G.notes log.old)
+        (G.notes log.new) (S.traffic link.old) (S.traffic link.new)) }
 {
     let version = session.places.versions[place as usize];
     let name = block_name(place);
@@ -184,8 +196,11 @@ fn read_place<S: Store, G: Log>(
     requires few { IsFew session.old }
     ensures ready { OnOk result (IsSessionReady keys.now.block session.new (G.notes log.new)) }
     ensures more { OnOk result (IsOneMore session.old session.new) }
-    ensures serves { OnOk result (Serves (read_of place ∷ []) (G.notes log.old) (G.notes log.new) (S.traffic link.old) (S.traffic link.new) (S.faults link.old) (S.faults link.new) session.old.replies session.new.replies) }
-    ensures stops { OnErr result (Stops keys.now.block (read_of place ∷ []) (G.notes log.old) (G.notes log.new) (S.traffic link.old) (S.traffic link.new)) }
+    ensures serves { OnOk result (Serves (read_of place ∷ []) (G.notes log.old)
+        (G.notes log.new) (S.traffic link.old) (S.traffic link.new)
+        (S.faults link.old) (S.faults link.new) session.old.replies session.new.replies) }
+    ensures stops { OnErr result (Stops keys.now.block (read_of place ∷ []) (G.notes log.old)
+        (G.notes log.new) (S.traffic link.old) (S.traffic link.new)) }
 {
     log.ready(2)?;
     let request = read_request(alloc, place)?;
@@ -210,8 +225,11 @@ fn serve<S: Store, G: Log>(
     requires few { IsFew session.old }
     ensures ready { OnOk result (IsSessionReady keys.now.block session.new (G.notes log.new)) }
     ensures more { OnOk result (IsOneMore session.old session.new) }
-    ensures serves { OnOk result (Serves (request_of line ∷ []) (G.notes log.old) (G.notes log.new) (S.traffic link.old) (S.traffic link.new) (S.faults link.old) (S.faults link.new) session.old.replies session.new.replies) }
-    ensures stops { OnErr result (Stops keys.now.block (request_of line ∷ []) (G.notes log.old) (G.notes log.new) (S.traffic link.old) (S.traffic link.new)) }
+    ensures serves { OnOk result (Serves (request_of line ∷ []) (G.notes log.old)
+        (G.notes log.new) (S.traffic link.old) (S.traffic link.new)
+        (S.faults link.old) (S.faults link.new) session.old.replies session.new.replies) }
+    ensures stops { OnErr result (Stops keys.now.block (request_of line ∷ []) (G.notes log.old)
+        (G.notes log.new) (S.traffic link.old) (S.traffic link.new)) }
 {
     match line {
         Line::Write { place, bytes } => write_place(alloc, keys, session, link, log, place, bytes),
@@ -230,10 +248,13 @@ pub fn serve_all<S: Store, G: Log>(
     requires ranges { All IsInRange lines.items }
     requires few { vec_len lines < 2 ^ 30 }
     requires fresh { IsEmptyLog (G.notes log.old) }
-    ensures serves { IfOk result (λ replies. Serves (map request_of lines.items) (G.notes log.old) (G.notes log.new) (S.traffic link.old) (S.traffic link.new) (S.faults link.old) (S.faults link.new) silent replies) }
+    ensures serves { IfOk result (λ replies.
+        Serves (map request_of lines.items) (G.notes log.old) (G.notes log.new) (S.traffic link.old)
+        (S.traffic link.new) (S.faults link.old) (S.faults link.new) silent replies) }
     ensures judged { OnOk result (IsJudged keys.now.block (G.notes log.new)) }
     ensures shaped { OnOk result (HasShape keys.now.block (G.notes log.new)) }
-    ensures stops { OnErr result (Stops keys.now.block (map request_of lines.items) (G.notes log.old) (G.notes log.new) (S.traffic link.old) (S.traffic link.new)) }
+    ensures stops { OnErr result (Stops keys.now.block (map request_of lines.items)
+        (G.notes log.old) (G.notes log.new) (S.traffic link.old) (S.traffic link.new)) }
 {
     let mut session = Session::new(alloc)?;
     for line in lines {

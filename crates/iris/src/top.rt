@@ -81,7 +81,10 @@ fn run<R: Source, W: Sink, S: Store, G: Log>(
     log: &mut G,
 ) -> Result<bool, Stop>
     requires fresh { IsEmptyLog (G.notes log.old) }
-    ensures { IsEnd (map (λ w. w.now) words.now) (R.left script.old) (R.left script.new) (R.faults script.old) (R.faults script.new) (W.written out.old) (W.written out.new) (W.faults out.old) (W.faults out.new) (S.traffic link.old) (S.traffic link.new) (S.faults link.old) (S.faults link.new) (G.notes log.old) (G.notes log.new) result }
+    ensures { IsEnd (map (λ w. w.now) words.now) (R.left script.old) (R.left script.new)
+        (R.faults script.old) (R.faults script.new) (W.written out.old) (W.written out.new)
+        (W.faults out.old) (W.faults out.new) (S.traffic link.old) (S.traffic link.new)
+        (S.faults link.old) (S.faults link.new) (G.notes log.old) (G.notes log.new) result }
 {
     let Some(master) = read_words(words) else {
         return Err(Stop::BadWords);
@@ -137,37 +140,55 @@ pub fn registers<R: Source, W: Sink, S: Store, G: Log>(
     requires fresh { IsEmptyLog (G.notes log) }
 
     // The source was read to its end, and spells the requests of the calls.
-    ensures read { IsServed result.status → IfSome (G.notes result.log) (λ notes. WasRead (R.left script.old) (R.left script.new) (requests_of notes)) }
+    ensures read { IsServed result.status → IfSome (G.notes result.log) (λ notes.
+        WasRead (R.left script.old) (R.left script.new) (requests_of notes)) }
     // Each note is the one client's.
     ensures asked { IfSome (G.notes result.log) (AllBy 1) }
     // What was written is the printing of the replies, and nothing else.
-    ensures printed { IsPrinted result.status → IfSome (G.notes result.log) (λ notes. W.written out.new ≡ extended (W.written out.old) (printed 1 (replies_of notes))) }
+    ensures printed { IsPrinted result.status → IfSome (G.notes result.log) (λ notes.
+        W.written out.new ≡ extended (W.written out.old) (printed 1 (replies_of notes))) }
     // The link's traffic grew by the log's transfers, in order, at every status.
-    ensures traffic { IfSome (G.notes result.log) (λ notes. S.traffic result.link ≡ extended (S.traffic link) (transfers_of notes)) }
+    ensures traffic { IfSome (G.notes result.log) (λ notes.
+        S.traffic result.link ≡ extended (S.traffic link) (transfers_of notes)) }
     // Status 1 comes exactly where a reply is refused.
-    ensures refused { IsPrinted result.status → IfSome (G.notes result.log) (λ notes. (result.status ≡ 1) ↔ IsTrue (any_refused (replies_of notes))) }
+    ensures refused { IsPrinted result.status → IfSome (G.notes result.log) (λ notes.
+        (result.status ≡ 1) ↔ IsTrue (any_refused (replies_of notes))) }
     // The history is bad, or legal, at every status.
     ensures judged { IfSome (G.notes result.log) (IsBadOrLegal (map (λ w. w.now) words.now)) }
     // One put after each write's call, one get before the call of each read of a place that is clean there, and no other.
-    ensures shaped { IsServed result.status → IfSome (G.notes result.log) (HasItsTransfers (map (λ w. w.now) words.now)) }
+    ensures shaped { IsServed result.status →
+        IfSome (G.notes result.log) (HasItsTransfers (map (λ w. w.now) words.now)) }
 
     // Each status, by its cause. A source that failed and want of memory come before a bad line and a long script, which
     // else come exactly where they stand.
-    ensures bad_words { ((result.status ≡ 2) × (result.line ≡ 0)) ↔ HasNoKey (map (λ w. w.now) words.now) }
-    ensures bad_line { IfSome (R.left script.old) (λ bytes. (n : ℕ) → n ≢ 0 → WentOn result.status → ((result.status ≡ 2) × (result.line ≡ n)) ↔ HasBadLine (map (λ w. w.now) words.now) bytes n) }
+    ensures bad_words { ((result.status ≡ 2) × (result.line ≡ 0)) ↔
+        HasNoKey (map (λ w. w.now) words.now) }
+    ensures bad_line { IfSome (R.left script.old) (λ bytes. (n : ℕ) →
+        n ≢ 0 → WentOn result.status → ((result.status ≡ 2) × (result.line ≡ n)) ↔
+        HasBadLine (map (λ w. w.now) words.now) bytes n) }
     ensures other_lines { result.status ≢ 2 → result.line ≡ 0 }
     ensures unread { result.status ≡ 3 → IsFault (R.faults script.old) (R.faults script.new) }
     ensures unwritten { result.status ≡ 4 → IsFault (W.faults out.old) (W.faults out.new) }
-    ensures failed { IsServed result.status → IfSome (G.notes result.log) (λ notes. AnyGetFailed notes → IsFault (S.faults link) (S.faults result.link)) }
-    ensures too_long { IfSome (R.left script.old) (λ bytes. WentOn result.status → (result.status ≡ 7) ↔ IsTooLong (map (λ w. w.now) words.now) bytes) }
+    ensures failed { IsServed result.status → IfSome (G.notes result.log) (λ notes.
+        AnyGetFailed notes → IsFault (S.faults link) (S.faults result.link)) }
+    ensures too_long { IfSome (R.left script.old) (λ bytes. WentOn result.status →
+        (result.status ≡ 7) ↔ IsTooLong (map (λ w. w.now) words.now) bytes) }
     ensures statuses { (result.status ≤ 4) ⊎ (result.status ≡ 7) ⊎ (result.status ≡ 8) }
-    ensures honest { (master : List ℕ) → AreWords (map (λ w. w.now) words.now) master → IsInForm (R.left script.old) → ¬ IsFault (R.faults script.old) (R.faults script.new) → ¬ IsFault (W.faults out.old) (W.faults out.new) → ¬ IsFault (S.faults link) (S.faults result.link) → IfSome (G.notes result.log) (IsDoneIfHonest master result.status) }
+    ensures honest { (master : List ℕ) → AreWords (map (λ w. w.now) words.now) master →
+        IsInForm (R.left script.old) → ¬ IsFault (R.faults script.old) (R.faults script.new) →
+        ¬ IsFault (W.faults out.old) (W.faults out.new) →
+        ¬ IsFault (S.faults link) (S.faults result.link) →
+        IfSome (G.notes result.log) (IsDoneIfHonest master result.status) }
 
     // What a run leaves that ends early.
-    ensures unbegun { IsUnbegun result.status → (G.notes result.log ≡ G.notes log) × (S.traffic result.link ≡ S.traffic link) }
+    ensures unbegun { IsUnbegun result.status →
+        (G.notes result.log ≡ G.notes log) × (S.traffic result.link ≡ S.traffic link) }
     ensures silent { IsSilent result.status → W.written out.new ≡ W.written out.old }
-    ensures cut { result.status ≡ 4 → IfSome (G.notes result.log) (λ notes. (n : ℕ) × (W.written out.new ≡ extended (W.written out.old) (take n (printed 1 (replies_of notes))))) }
-    ensures stopped { result.status ≡ 8 → IfSome (G.notes result.log) (λ notes. AreFirst (R.left script.old) (requests_of notes)) }
+    ensures cut { result.status ≡ 4 →
+        IfSome (G.notes result.log) (λ notes. (n : ℕ) × (W.written out.new ≡
+        extended (W.written out.old) (take n (printed 1 (replies_of notes))))) }
+    ensures stopped { result.status ≡ 8 →
+        IfSome (G.notes result.log) (λ notes. AreFirst (R.left script.old) (requests_of notes)) }
 {
     let mut link = link;
     let mut log = log;

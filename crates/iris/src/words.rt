@@ -15,8 +15,10 @@ fn read_key(digits: &str) -> Option<[u8; 32]>
 
 /// The master key that a command's words give: they are the command and the key's 64 hexadecimal digits of either case.
 pub fn read_command(command: &str, words: &[&str]) -> Option<[u8; 32]>
-    ensures some { IfSome result (λ master. IsCommand command.now (map (λ word. word.now) words.now) master) }
-    ensures none { IfNone result ((master : List ℕ) → IsCommand command.now (map (λ word. word.now) words.now) master → ⊥) }
+    ensures some { IfSome result (λ master.
+        IsCommand command.now (map (λ word. word.now) words.now) master) }
+    ensures none { IfNone result ((master : List ℕ) →
+        IsCommand command.now (map (λ word. word.now) words.now) master → ⊥) }
 {
     match words {
         [first, digits] if *first == command => read_key(digits),
@@ -27,7 +29,8 @@ pub fn read_command(command: &str, words: &[&str]) -> Option<[u8; 32]>
 /// The master key that the words give: they are `registers` and its digits.
 pub fn read_words(words: &[&str]) -> Option<[u8; 32]>
     ensures some { IfSome result (λ master. AreWords (map (λ word. word.now) words.now) master) }
-    ensures none { IfNone result ((master : List ℕ) → AreWords (map (λ word. word.now) words.now) master → ⊥) }
+    ensures none { IfNone result ((master : List ℕ) →
+        AreWords (map (λ word. word.now) words.now) master → ⊥) }
 {
     read_command("registers", words)
 }

@@ -25,7 +25,8 @@ use iris_node::Node;
 impl Cache {
     // Takes a node from its parent, where it is resident.
     fn unhang_one(&mut self, name: &Name)
-        ensures nodes { (q : SpecName) → bare self.new q ≡ map_if (same_name name.now q) (with_parent None) (bare self.old q) }
+        ensures nodes { (q : SpecName) →
+            bare self.new q ≡ map_if (same_name name.now q) (with_parent None) (bare self.old q) }
         ensures room { self.new.room ≡ self.old.room }
     {
         if self.find(name).is_some() {
@@ -35,7 +36,8 @@ impl Cache {
 
     // Takes each node of the changes from its parent.
     fn unhang(&mut self, changes: &IndexMap<Name, Change>)
-        ensures nodes { (q : SpecName) → bare self.new q ≡ map_if (is_some (get same_name changes.now q)) (with_parent None) (bare self.old q) }
+        ensures nodes { (q : SpecName) → bare self.new q ≡
+            map_if (is_some (get same_name changes.now q)) (with_parent None) (bare self.old q) }
         ensures room { self.new.room ≡ self.old.room }
     {
         for i in 0..changes.len() {
@@ -49,7 +51,8 @@ impl Cache {
     // Hangs a node under a parent, where it is resident.
     fn hang_one(&mut self, name: &Name, parent: Option<Name>)
         requires { (h : HeldRecord) → bare self.old name.now ≡ Some h → h.parent ≡ None }
-        ensures nodes { (q : SpecName) → bare self.new q ≡ map_if (same_name name.now q) (with_parent parent) (bare self.old q) }
+        ensures nodes { (q : SpecName) →
+            bare self.new q ≡ map_if (same_name name.now q) (with_parent parent) (bare self.old q) }
         ensures room { self.new.room ≡ self.old.room }
     {
         if self.find(name).is_some() {
@@ -60,8 +63,11 @@ impl Cache {
     // Hangs each node of the changes under its new parent.
     fn hang(&mut self, changes: &IndexMap<Name, Change>)
         requires once { IsUnique same_name changes.now }
-        requires alone { (q : SpecName) (h : HeldRecord) → is_some (get same_name changes.now q) ≡ true → bare self.old q ≡ Some h → h.parent ≡ None }
-        ensures nodes { (q : SpecName) → bare self.new q ≡ hung (get same_name changes.now q) (bare self.old q) }
+        requires alone { (q : SpecName) (h : HeldRecord) →
+            is_some (get same_name changes.now q) ≡ true →
+            bare self.old q ≡ Some h → h.parent ≡ None }
+        ensures nodes { (q : SpecName) →
+            bare self.new q ≡ hung (get same_name changes.now q) (bare self.old q) }
         ensures room { self.new.room ≡ self.old.room }
     {
         for i in 0..changes.len() {
@@ -76,9 +82,12 @@ impl Cache {
     fn land(&mut self, name: &Name, node: Option<Node>)
         requires alone { (h : HeldRecord) → bare self.old name.now ≡ Some h → h.parent ≡ None }
         requires own { (k : NodeValue) → node ≡ Some k → name_of k ≡ name.now }
-        requires place { is_some node ≡ true → held_node self.old name.now ≡ None → has_room self.old name.now ≡ true }
-        ensures nodes { (q : SpecName) → bare self.new q ≡ (if same_name name.now q then node_written node (bare self.old q) else bare self.old q) }
-        ensures room { (q : SpecName) → has_room self.new q ≡ (has_room self.old q && not (same_name name.now q && is_some node)) }
+        requires place { is_some node ≡ true →
+            held_node self.old name.now ≡ None → has_room self.old name.now ≡ true }
+        ensures nodes { (q : SpecName) → bare self.new q ≡ (if same_name name.now q
+            then node_written node (bare self.old q) else bare self.old q) }
+        ensures room { (q : SpecName) → has_room self.new q ≡
+            (has_room self.old q && not (same_name name.now q && is_some node)) }
     {
         match node {
             Some(node) => self.write_one(name, node),
@@ -89,7 +98,8 @@ impl Cache {
     // Takes a name away, where it is resident.
     fn take_one(&mut self, name: &Name)
         requires alone { (h : HeldRecord) → bare self.old name.now ≡ Some h → h.parent ≡ None }
-        ensures nodes { (q : SpecName) → bare self.new q ≡ (if same_name name.now q then None else bare self.old q) }
+        ensures nodes { (q : SpecName) →
+            bare self.new q ≡ (if same_name name.now q then None else bare self.old q) }
         ensures room { self.new.room ≡ self.old.room }
     {
         if self.find(name).is_some() {
@@ -101,8 +111,10 @@ impl Cache {
     fn write_one(&mut self, name: &Name, node: Node)
         requires own { name_of node ≡ name.now }
         requires place { held_node self.old name.now ≡ None → has_room self.old name.now ≡ true }
-        ensures nodes { (q : SpecName) → bare self.new q ≡ (if same_name name.now q then node_written (Some node) (bare self.old q) else bare self.old q) }
-        ensures room { (q : SpecName) → has_room self.new q ≡ (has_room self.old q && not (same_name name.now q)) }
+        ensures nodes { (q : SpecName) → bare self.new q ≡ (if same_name name.now q
+            then node_written (Some node) (bare self.old q) else bare self.old q) }
+        ensures room { (q : SpecName) →
+            has_room self.new q ≡ (has_room self.old q && not (same_name name.now q)) }
     {
         if self.nodes.contains_key(name) {
             self.rewrite(name, node);
@@ -123,7 +135,8 @@ impl Cache {
     // Gives a resident name another node.
     fn rewrite(&mut self, name: &Name, node: Node)
         requires { name_of node ≡ name.now }
-        ensures nodes { (q : SpecName) → held_node self.new q ≡ map_if (same_name name.now q) (with_node node) (held_node self.old q) }
+        ensures nodes { (q : SpecName) → held_node self.new q ≡
+            map_if (same_name name.now q) (with_node node) (held_node self.old q) }
         ensures room { self.new.room ≡ self.old.room }
     {
         renew(&mut self.nodes, name, node);
@@ -132,11 +145,18 @@ impl Cache {
     // Puts each node of the changes in the place of what was held of its name, or takes the name away.
     fn write(&mut self, changes: &mut IndexMap<Name, Change>)
         requires draft { IsDraft (record { changes = changes.old.entries }) }
-        requires alone { (q : SpecName) (h : HeldRecord) → is_some (get same_name changes.old q) ≡ true → bare self.old q ≡ Some h → h.parent ≡ None }
-        requires places { (q : SpecName) → is_set (get same_name changes.old q) ≡ true → held_node self.old q ≡ None → has_room self.old q ≡ true }
-        ensures nodes { (q : SpecName) → bare self.new q ≡ (if is_some (get same_name changes.old q) then node_written (node_of_change (get same_name changes.old q)) (bare self.old q) else bare self.old q) }
-        ensures room { (q : SpecName) → has_room self.new q ≡ (has_room self.old q && not (is_set (get same_name changes.old q))) }
-        ensures changes { (q : SpecName) → get same_name changes.new q ≡ option_map spent (get same_name changes.old q) }
+        requires alone { (q : SpecName) (h : HeldRecord) →
+            is_some (get same_name changes.old q) ≡ true →
+            bare self.old q ≡ Some h → h.parent ≡ None }
+        requires places { (q : SpecName) → is_set (get same_name changes.old q) ≡ true →
+            held_node self.old q ≡ None → has_room self.old q ≡ true }
+        ensures nodes { (q : SpecName) → bare self.new q ≡ (if is_some (get same_name changes.old q)
+            then node_written (node_of_change (get same_name changes.old q)) (bare self.old q)
+            else bare self.old q) }
+        ensures room { (q : SpecName) → has_room self.new q ≡
+            (has_room self.old q && not (is_set (get same_name changes.old q))) }
+        ensures changes { (q : SpecName) →
+            get same_name changes.new q ≡ option_map spent (get same_name changes.old q) }
         ensures keys { keys_of changes.new.entries ≡ keys_of changes.old.entries }
     {
         for i in 0..changes.len() {
@@ -148,9 +168,11 @@ impl Cache {
 
     /// Makes a draft. Nodes that differ are marked with all above them, as they stand with the draft made.
     pub fn apply(&mut self, draft: Draft)
-        requires { (q : SpecName) → sets draft q ≡ true → held_node self.old q ≡ None → has_room self.old q ≡ true }
+        requires { (q : SpecName) →
+            sets draft q ≡ true → held_node self.old q ≡ None → has_room self.old q ≡ true }
         ensures nodes { (q : SpecName) → Lands draft self.old self.new q }
-        ensures room { (q : SpecName) → has_room self.new q ≡ (has_room self.old q && not (sets draft q)) }
+        ensures room { (q : SpecName) →
+            has_room self.new q ≡ (has_room self.old q && not (sets draft q)) }
     {
         let mut changes = draft.into_changes();
         self.mark_changed(&changes);
@@ -175,7 +197,8 @@ fn name_at(changes: &IndexMap<Name, Change>, i: usize) -> Name
 // Hands the node of a change out.
 fn take_node(changes: &mut IndexMap<Name, Change>, name: &Name) -> Option<Node>
     ensures node { result ≡ node_of_change (get same_name changes.old name.now) }
-    ensures changes { (q : SpecName) → get same_name changes.new q ≡ (if same_name name.now q then option_map spent (get same_name changes.old q) else get same_name changes.old q) }
+    ensures changes { (q : SpecName) → get same_name changes.new q ≡ (if same_name name.now q
+        then option_map spent (get same_name changes.old q) else get same_name changes.old q) }
     ensures keys { keys_of changes.new.entries ≡ keys_of changes.old.entries }
 {
     match changes.get_mut(name) {

@@ -33,7 +33,8 @@ impl Model for Cache {
 
     ghost view = { λ a. record { nodes = a.nodes.entries; room = a.places.keys } };
 
-    ghost invariant = { λ a. IsKept (record { nodes = a.nodes.entries; room = a.places.keys }) a.astray (spare a.nodes) };
+    ghost invariant = { λ a. IsKept (record { nodes = a.nodes.entries; room = a.places.keys })
+        a.astray (spare a.nodes) };
 }
 
 impl Cache {
@@ -85,7 +86,8 @@ impl Cache {
     /// Keeps an empty place for a name, where it isn't resident.
     pub fn room(&mut self, name: &Name) -> Result<(), NoMemory>
         ensures nodes { self.new.nodes ≡ self.old.nodes }
-        ensures kept { OnOk result ((q : SpecName) → has_room self.new q ≡ (if same_name name.now q then not (is_some (held_node self.old q)) else has_room self.old q)) }
+        ensures kept { OnOk result ((q : SpecName) → has_room self.new q ≡ (if same_name name.now q
+            then not (is_some (held_node self.old q)) else has_room self.old q)) }
         ensures err { OnErr result (self.new ≡ self.old) }
     {
         if self.nodes.contains_key(name) {
@@ -105,7 +107,8 @@ impl Cache {
     /// Gives the empty place of a name up, where it has one.
     pub fn no_room(&mut self, name: &Name)
         ensures nodes { self.new.nodes ≡ self.old.nodes }
-        ensures room { (q : SpecName) → has_room self.new q ≡ (if same_name name.now q then false else has_room self.old q) }
+        ensures room { (q : SpecName) →
+            has_room self.new q ≡ (if same_name name.now q then false else has_room self.old q) }
     {
         self.places.swap_remove(name);
     }
@@ -114,8 +117,12 @@ impl Cache {
     pub fn insert(&mut self, parent: Option<Name>, node: Node, who: u32)
         requires room { has_room self.old (name_of node) ≡ true }
         requires caller { who ≤ 16 }
-        ensures nodes { (q : SpecName) → held_node self.new q ≡ map_if (points parent q) kid_more (if same_name (name_of node) q then Some (newcomer_node parent node who (children self.old (name_of node))) else held_node self.old q) }
-        ensures room { (q : SpecName) → has_room self.new q ≡ (if same_name (name_of node) q then false else has_room self.old q) }
+        ensures nodes { (q : SpecName) →
+            held_node self.new q ≡ map_if (points parent q) kid_more (if same_name (name_of node) q
+            then Some (newcomer_node parent node who (children self.old (name_of node)))
+            else held_node self.old q) }
+        ensures room { (q : SpecName) → has_room self.new q ≡ (if same_name (name_of node) q
+            then false else has_room self.old q) }
         ensures count { length self.new.nodes ≡ length self.old.nodes + 1 }
     {
         let name = node.name();
@@ -135,10 +142,14 @@ impl Cache {
     /// Lets a node go, or says why it stays.
     pub fn evict(&mut self, name: &Name) -> Result<Node, Stay>
         requires { IsSome (held_node self.old name.now) }
-        ensures gone { IfOk result (λ n. option_map (λ (h : HeldRecord). h.node) (held_node self.old name.now) ≡ Some n) }
+        ensures gone { IfOk result (λ n.
+            option_map (λ (h : HeldRecord). h.node) (held_node self.old name.now) ≡ Some n) }
         ensures free { OnOk result (IfSome (held_node self.old name.now) (λ h. stay_of h ≡ None)) }
-        ensures stays { IfErr result (λ s. IfSome (held_node self.old name.now) (λ h. stay_of h ≡ Some s)) }
-        ensures nodes { OnOk result ((q : SpecName) → held_node self.new q ≡ map_if (points (resident_parent self.old name.now) q) kid_less (if same_name name.now q then None else held_node self.old q)) }
+        ensures stays { IfErr result (λ s.
+            IfSome (held_node self.old name.now) (λ h. stay_of h ≡ Some s)) }
+        ensures nodes { OnOk result ((q : SpecName) → held_node self.new q ≡
+            map_if (points (resident_parent self.old name.now) q) kid_less (if same_name name.now q
+            then None else held_node self.old q)) }
         ensures count { OnOk result (length self.new.nodes + 1 ≡ length self.old.nodes) }
         ensures room { self.new.room ≡ self.old.room }
         ensures err { OnErr result (self.new ≡ self.old) }

@@ -58,8 +58,11 @@ impl Draft {
 
     /// Gives a name a node and a parent.
     pub fn set(&mut self, parent: Option<Name>, node: Node) -> Result<(), NoMemory>
-        ensures changes { OnOk result (self.new.changes ≡ insert_entry same_name self.old.changes (name_of node) (set_to parent node)) }
-        ensures names { OnOk result ((q : SpecName) → drafted self.new q ≡ (if same_name (name_of node) q then Some (set_to parent node) else drafted self.old q)) }
+        ensures changes { OnOk result (self.new.changes ≡
+            insert_entry same_name self.old.changes (name_of node) (set_to parent node)) }
+        ensures names { OnOk result ((q : SpecName) →
+            drafted self.new q ≡ (if same_name (name_of node) q
+            then Some (set_to parent node) else drafted self.old q)) }
         ensures err { OnErr result (self.new ≡ self.old) }
     {
         if self.changes.len() >= u32::MAX as usize {
@@ -76,8 +79,10 @@ impl Draft {
 
     /// Takes a name away.
     pub fn remove(&mut self, name: &Name) -> Result<(), NoMemory>
-        ensures changes { OnOk result (self.new.changes ≡ insert_entry same_name self.old.changes name.now taken_away) }
-        ensures names { OnOk result ((q : SpecName) → drafted self.new q ≡ (if same_name name.now q then Some taken_away else drafted self.old q)) }
+        ensures changes { OnOk result (self.new.changes ≡
+            insert_entry same_name self.old.changes name.now taken_away) }
+        ensures names { OnOk result ((q : SpecName) → drafted self.new q ≡ (if same_name name.now q
+            then Some taken_away else drafted self.old q)) }
         ensures err { OnErr result (self.new ≡ self.old) }
     {
         if self.changes.len() >= u32::MAX as usize {

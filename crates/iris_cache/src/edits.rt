@@ -17,7 +17,8 @@ use iris_node::Node;
 // Makes an edit of a node, where it is resident.
 pub(crate) fn edit(nodes: &mut IndexMap<Name, Held>, name: &Name, edit: Edit)
     requires { IfSome (get same_name nodes.old name.now) (IsEdit edit) }
-    ensures nodes { (q : SpecName) → get same_name nodes.new q ≡ map_if (same_name name.now q) (edited_node edit) (get same_name nodes.old q) }
+    ensures nodes { (q : SpecName) → get same_name nodes.new q ≡
+        map_if (same_name name.now q) (edited_node edit) (get same_name nodes.old q) }
     ensures count { length nodes.new.entries ≡ length nodes.old.entries }
     ensures spare { spare nodes.new ≡ spare nodes.old }
     ensures unique { IsUnique same_name nodes.old → IsUnique same_name nodes.new }
@@ -33,12 +34,15 @@ pub(crate) fn edit_parent(
     parent: Option<Name>,
     change: Edit,
 ) -> bool
-    requires { (p : SpecName) → parent ≡ Some p → IfSome (get same_name nodes.old p) (IsEdit change) }
-    ensures nodes { (q : SpecName) → get same_name nodes.new q ≡ map_if (points parent q) (edited_node change) (get same_name nodes.old q) }
+    requires { (p : SpecName) →
+        parent ≡ Some p → IfSome (get same_name nodes.old p) (IsEdit change) }
+    ensures nodes { (q : SpecName) → get same_name nodes.new q ≡
+        map_if (points parent q) (edited_node change) (get same_name nodes.old q) }
     ensures count { length nodes.new.entries ≡ length nodes.old.entries }
     ensures spare { spare nodes.new ≡ spare nodes.old }
     ensures unique { IsUnique same_name nodes.old → IsUnique same_name nodes.new }
-    ensures missing { result ≡ false → (p : SpecName) → parent ≡ Some p → IsSome (get same_name nodes.old p) }
+    ensures missing { result ≡ false →
+        (p : SpecName) → parent ≡ Some p → IsSome (get same_name nodes.old p) }
 {
     let Some(parent) = parent else {
         return false;
@@ -51,7 +55,8 @@ pub(crate) fn edit_parent(
 // How many nodes have this parent: none, where no node is astray and the parent isn't resident.
 pub(crate) fn count_children(nodes: &IndexMap<Name, Held>, name: &Name, astray: bool) -> u32
     requires few { length nodes.now.entries < 2 ^ 32 }
-    requires homed { astray ≡ false → count_by (is_child name.now) (values_of nodes.now.entries) ≡ 0 }
+    requires homed { astray ≡ false →
+        count_by (is_child name.now) (values_of nodes.now.entries) ≡ 0 }
     ensures { result ≡ count_by (is_child name.now) (values_of nodes.now.entries) }
 {
     if !astray {
@@ -87,7 +92,8 @@ pub(crate) fn unpin_all(nodes: &mut IndexMap<Name, Held>, who: u32)
 
 // Gives a name another node, where it is resident.
 pub(crate) fn renew(nodes: &mut IndexMap<Name, Held>, name: &Name, node: Node)
-    ensures nodes { (q : SpecName) → get same_name nodes.new q ≡ map_if (same_name name.now q) (with_node node) (get same_name nodes.old q) }
+    ensures nodes { (q : SpecName) → get same_name nodes.new q ≡
+        map_if (same_name name.now q) (with_node node) (get same_name nodes.old q) }
     ensures count { length nodes.new.entries ≡ length nodes.old.entries }
     ensures spare { spare nodes.new ≡ spare nodes.old }
     ensures unique { IsUnique same_name nodes.old → IsUnique same_name nodes.new }

@@ -80,7 +80,8 @@ impl Cache {
     /// Takes all pins of a caller off.
     pub fn release(&mut self, who: u32)
         requires { who ≤ 16 }
-        ensures nodes { (q : SpecName) → held_node self.new q ≡ option_map (unpinned_node who) (held_node self.old q) }
+        ensures nodes { (q : SpecName) →
+            held_node self.new q ≡ option_map (unpinned_node who) (held_node self.old q) }
         ensures room { self.new.room ≡ self.old.room }
         ensures count { length self.new.nodes ≡ length self.old.nodes }
     {

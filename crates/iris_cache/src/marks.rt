@@ -20,7 +20,8 @@ use iris_node::{Node, is_same_node};
 impl Cache {
     // The parent of a name with the changes made.
     fn parent_after(&self, changes: &IndexMap<Name, Change>, name: &Name) -> Option<Name>
-        ensures { result ≡ parent_after (record { changes = changes.now.entries }) self.now name.now }
+        ensures { result ≡
+            parent_after (record { changes = changes.now.entries }) self.now name.now }
     {
         match changes.get(name) {
             Some(change) => change.parent,
@@ -44,7 +45,10 @@ impl Cache {
 
     // Marks a node and all above it with the changes made.
     fn mark_up(&mut self, changes: &IndexMap<Name, Change>, name: &Name)
-        ensures nodes { (q : SpecName) → held_node self.new q ≡ map_if (is_above_within (parent_after (record { changes = changes.now.entries }) self.old) (length self.old.nodes + length changes.now.entries + 1) (Some name.now) q) moved_node (held_node self.old q) }
+        ensures nodes { (q : SpecName) →
+            held_node self.new q ≡ map_if (is_above_within (parent_after
+            (record { changes = changes.now.entries }) self.old) (length self.old.nodes +
+            length changes.now.entries + 1) (Some name.now) q) moved_node (held_node self.old q) }
         ensures room { self.new.room ≡ self.old.room }
         ensures count { length self.new.nodes ≡ length self.old.nodes }
     {
@@ -62,7 +66,8 @@ impl Cache {
     // Marks each node that differs, and all above it.
     pub(crate) fn mark_changed(&mut self, changes: &IndexMap<Name, Change>)
         requires { IsUnique same_name changes.now }
-        ensures nodes { (q : SpecName) → Marks (record { changes = changes.now.entries }) self.old self.new q }
+        ensures nodes { (q : SpecName) →
+            Marks (record { changes = changes.now.entries }) self.old self.new q }
         ensures room { self.new.room ≡ self.old.room }
         ensures count { length self.new.nodes ≡ length self.old.nodes }
     {
@@ -76,7 +81,8 @@ impl Cache {
 
     // Marks a node that differs, and all above it.
     fn mark_where(&mut self, changes: &IndexMap<Name, Change>, name: &Name, change: &Change)
-        ensures nodes { MarksOne (record { changes = changes.now.entries }) self.old self.new name.now (Differs change.now.node (held_node self.old name.now)) }
+        ensures nodes { MarksOne (record { changes = changes.now.entries })
+            self.old self.new name.now (Differs change.now.node (held_node self.old name.now)) }
         ensures room { self.new.room ≡ self.old.room }
         ensures count { length self.new.nodes ≡ length self.old.nodes }
     {

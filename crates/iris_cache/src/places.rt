@@ -18,7 +18,8 @@ impl Cache {
     /// Keeps an empty place for every name that a draft sets and that isn't resident.
     pub fn room_for(&mut self, draft: &Draft) -> Result<(), NoMemory>
         ensures nodes { self.new.nodes ≡ self.old.nodes }
-        ensures kept { OnOk result ((q : SpecName) → has_room self.new q ≡ (has_room self.old q || (sets draft.now q && not (is_some (held_node self.old q))))) }
+        ensures kept { OnOk result ((q : SpecName) → has_room self.new q ≡
+            (has_room self.old q || (sets draft.now q && not (is_some (held_node self.old q))))) }
         ensures err { OnErr result (self.new ≡ self.old) }
     {
         let names = draft.changes.len();
@@ -41,7 +42,9 @@ fn place_all(
 )
     requires spare { length changes.now.entries ≤ set.spare places.old }
     requires once { map.IsUnique same_name changes.now }
-    ensures names { (q : SpecName) → set.contains same_name places.new q ≡ (set.contains same_name places.old q || (is_set (map.get same_name changes.now q) && not (is_some (map.get same_name nodes.now q)))) }
+    ensures names { (q : SpecName) → set.contains same_name places.new q ≡
+        (set.contains same_name places.old q || (is_set (map.get same_name changes.now q) &&
+        not (is_some (map.get same_name nodes.now q)))) }
     ensures len { length places.new.keys ≤ length places.old.keys + length changes.now.entries }
 {
     for i in 0..changes.len() {
@@ -55,7 +58,9 @@ fn place_all(
 // Adds a name that is set and isn't resident to the places.
 fn place(places: &mut IndexSet<Name>, nodes: &IndexMap<Name, Held>, name: &Name, change: &Change)
     requires { 0 < set.spare places.old }
-    ensures names { (q : SpecName) → set.contains same_name places.new q ≡ (set.contains same_name places.old q || (same_name name.now q && (is_some change.now.node && not (is_some (map.get same_name nodes.now name.now))))) }
+    ensures names { (q : SpecName) → set.contains same_name places.new q ≡
+        (set.contains same_name places.old q || (same_name name.now q &&
+        (is_some change.now.node && not (is_some (map.get same_name nodes.now name.now))))) }
     ensures len { length places.new.keys ≤ length places.old.keys + 1 }
     ensures spare { set.spare places.old ≤ set.spare places.new + 1 }
 {

@@ -105,7 +105,8 @@ impl Held {
 
 // Puts the hash of a child into a node, where that is resident.
 fn tell(nodes: &mut IndexMap<Name, Held>, at: &Name, name: &Name, hash: Hash32)
-    ensures nodes { (q : SpecName) → get same_name nodes.new q ≡ map_if (same_name at.now q) (with_hash name.now hash) (get same_name nodes.old q) }
+    ensures nodes { (q : SpecName) → get same_name nodes.new q ≡
+        map_if (same_name at.now q) (with_hash name.now hash) (get same_name nodes.old q) }
     ensures count { length nodes.new.entries ≡ length nodes.old.entries }
     ensures spare { spare nodes.new ≡ spare nodes.old }
     ensures unique { IsUnique same_name nodes.old → IsUnique same_name nodes.new }
@@ -120,7 +121,9 @@ impl Cache {
     pub fn set_hash(&mut self, name: &Name, hash: Hash32)
         requires resident { IsSome (held_node self.old name.now) }
         requires unsettled { IfSome (held_node self.old name.now) (λ h. h.settled ≡ false) }
-        ensures nodes { (q : SpecName) → held_node self.new q ≡ map_if (points (resident_parent self.old name.now) q) (with_hash name.now hash) (map_if (same_name name.now q) settled_so (held_node self.old q)) }
+        ensures nodes { (q : SpecName) → held_node self.new q ≡
+            map_if (points (resident_parent self.old name.now) q) (with_hash name.now hash)
+            (map_if (same_name name.now q) settled_so (held_node self.old q)) }
         ensures room { self.new.room ≡ self.old.room }
         ensures count { length self.new.nodes ≡ length self.old.nodes }
     {
@@ -133,7 +136,8 @@ impl Cache {
 
     // Puts the hash of a child into a node, where that is resident.
     fn retell(&mut self, at: &Name, name: &Name, hash: Hash32)
-        ensures nodes { (q : SpecName) → held_node self.new q ≡ map_if (same_name at.now q) (with_hash name.now hash) (held_node self.old q) }
+        ensures nodes { (q : SpecName) → held_node self.new q ≡
+            map_if (same_name at.now q) (with_hash name.now hash) (held_node self.old q) }
         ensures room { self.new.room ≡ self.old.room }
         ensures count { length self.new.nodes ≡ length self.old.nodes }
     {

@@ -18,8 +18,11 @@ impl Cache {
     pub(crate) fn put(&mut self, mut guest: Held)
         requires room { has_room self.old (name_of guest.node) ≡ true }
         requires alone { guest.parent ≡ None }
-        ensures nodes { (q : SpecName) → held_node self.new q ≡ cond (same_name (name_of guest.node) q) (Some (with_kids (children self.old (name_of guest.node)) guest)) (held_node self.old q) }
-        ensures room { (q : SpecName) → has_room self.new q ≡ cond (same_name (name_of guest.node) q) false (has_room self.old q) }
+        ensures nodes { (q : SpecName) →
+            held_node self.new q ≡ cond (same_name (name_of guest.node) q) (Some
+            (with_kids (children self.old (name_of guest.node)) guest)) (held_node self.old q) }
+        ensures room { (q : SpecName) → has_room self.new q ≡
+            cond (same_name (name_of guest.node) q) false (has_room self.old q) }
         ensures count { length self.new.nodes ≡ length self.old.nodes + 1 }
     {
         let name = guest.node.name();
@@ -35,7 +38,8 @@ impl Cache {
     pub(crate) fn link(&mut self, name: &Name, parent: Option<Name>)
         requires alone { (h : HeldRecord) → held_node self.old name.now ≡ Some h → h.parent ≡ None }
         requires resident { IsSome (held_node self.old name.now) }
-        ensures nodes { (q : SpecName) → held_node self.new q ≡ map_if (points parent q) kid_more (map_if (same_name name.now q) (with_parent parent) (held_node self.old q)) }
+        ensures nodes { (q : SpecName) → held_node self.new q ≡ map_if (points parent q) kid_more
+            (map_if (same_name name.now q) (with_parent parent) (held_node self.old q)) }
         ensures room { self.new.room ≡ self.old.room }
         ensures count { length self.new.nodes ≡ length self.old.nodes }
     {
@@ -47,7 +51,9 @@ impl Cache {
     // Takes a resident node from its parent.
     pub(crate) fn unlink(&mut self, name: &Name)
         requires { IsSome (held_node self.old name.now) }
-        ensures nodes { (q : SpecName) → held_node self.new q ≡ map_if (points (resident_parent self.old name.now) q) kid_less (map_if (same_name name.now q) (with_parent None) (held_node self.old q)) }
+        ensures nodes { (q : SpecName) →
+            held_node self.new q ≡ map_if (points (resident_parent self.old name.now) q) kid_less
+            (map_if (same_name name.now q) (with_parent None) (held_node self.old q)) }
         ensures room { self.new.room ≡ self.old.room }
         ensures count { length self.new.nodes ≡ length self.old.nodes }
     {
@@ -71,7 +77,8 @@ impl Cache {
         requires alone { (h : HeldRecord) → held_node self.old name.now ≡ Some h → h.parent ≡ None }
         requires resident { IsSome (held_node self.old name.now) }
         ensures node { held_node self.old name.now ≡ Some result }
-        ensures nodes { (q : SpecName) → held_node self.new q ≡ cond (same_name name.now q) None (held_node self.old q) }
+        ensures nodes { (q : SpecName) →
+            held_node self.new q ≡ cond (same_name name.now q) None (held_node self.old q) }
         ensures room { self.new.room ≡ self.old.room }
         ensures count { length self.new.nodes + 1 ≡ length self.old.nodes }
     {

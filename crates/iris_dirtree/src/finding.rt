@@ -9,10 +9,10 @@ ghost use Rattle.iris_treepaths.specs.Ways.{IsNamed, along_name};
 ghost use Rattle.iris_treepaths.specs.Needs.{IsDirectory, Listed, IsMetLack};
 ghost use Rattle.iris_dirtree.specs.Found.{entry_of_node, inside, id_found};
 
-use iris_treepaths::nodes::stands_before;
 use iris_cache::{Cache, Draft, Short};
 use iris_name::{Expect, FileId, Hash32, Name, Text};
 use iris_node::{Body, EntryNode, Link, Node};
+use iris_treepaths::nodes::stands_before;
 
 /// The entry, if a node is one.
 pub(crate) fn as_entry<'a>(node: Option<&'a Node>) -> Option<&'a EntryNode>
@@ -31,7 +31,8 @@ pub(crate) fn entry_seen<'a>(
     id: FileId,
     hash: Hash32,
 ) -> Result<Option<&'a EntryNode>, Short>
-    ensures entry { IfOk result (λ e. option_copied e ≡ entry_of_node (seen draft.now cache.now (Name.Entry id))) }
+    ensures entry { IfOk result (λ e.
+        option_copied e ≡ entry_of_node (seen draft.now cache.now (Name.Entry id))) }
     ensures known { IfOk result (λ _. IsSome (known draft.now cache.now (Name.Entry id))) }
     ensures need { IfErr result (λ e. e ≡ Short.Need (Name.Entry id) (Expect.Hash hash)) }
     ensures missing { IfErr result (λ _. known draft.now cache.now (Name.Entry id) ≡ None) }
@@ -61,7 +62,8 @@ fn link_inside(entry: Option<&EntryNode>) -> Option<Link>
 
 /// The link inside a directory.
 pub(crate) fn top_seen(draft: &Draft, cache: &Cache, dir: FileId) -> Result<Option<Link>, Short>
-    ensures top { IfOk result (λ top. top ≡ inside (entry_of_node (seen draft.now cache.now (Name.Entry dir)))) }
+    ensures top { IfOk result (λ top.
+        top ≡ inside (entry_of_node (seen draft.now cache.now (Name.Entry dir)))) }
     ensures known { IfOk result (λ _. IsSome (known draft.now cache.now (Name.Entry dir))) }
     ensures need { IfErr result (λ e. e ≡ Short.Need (Name.Entry dir) (Expect.Hash ANY_HASH)) }
     ensures missing { IfErr result (λ _. known draft.now cache.now (Name.Entry dir) ≡ None) }
@@ -85,9 +87,13 @@ pub fn plan_find(
     name: &Text,
 ) -> Result<Option<FileId>, Short>
     requires dir { IsDirectory draft.now cache.now dir }
-    ensures found { IfOk result (λ r. (key : List ℕ) → (old new : Shown) → (rows : List Row) → Listed key dir draft.now cache.now old new rows → IsNamed rows name.now (id_found r)) }
-    ensures there { IfOk result (λ r. IfSome r (λ id. IsSome (seen draft.now cache.now (Name.Entry id)))) }
-    ensures short { IfErr result (λ e. (key : List ℕ) → IsMetLack (Listed key dir draft.now cache.now) (along_name name.now key) draft.now cache.now dir e) }
+    ensures found { IfOk result (λ r. (key : List ℕ) → (old new : Shown) → (rows : List Row) →
+        Listed key dir draft.now cache.now old new rows → IsNamed rows name.now (id_found r)) }
+    ensures there { IfOk result (λ r.
+        IfSome r (λ id. IsSome (seen draft.now cache.now (Name.Entry id)))) }
+    ensures short { IfErr result (λ e. (key : List ℕ) →
+        IsMetLack (Listed key dir draft.now cache.now)
+        (along_name name.now key) draft.now cache.now dir e) }
 {
     let mut at = top_seen(draft, cache, dir)?;
     for _step in 0..longest_way(draft, cache) {

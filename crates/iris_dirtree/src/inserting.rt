@@ -21,18 +21,18 @@ ghost use Rattle.iris_treepaths.specs.Planted.{Planted};
 ghost use Rattle.iris_treepaths.specs.Nodes.{between, LinksTo, IsPut, OnlyEntries};
 ghost use Rattle.iris_dirtree.specs.Splits.{SeatReached, IsSplit, Splits};
 
-use iris_treepaths::recount;
 use crate::finding::longest_way;
+use iris_cache::{Cache, Draft, Short};
+use iris_mac::{Keys, priority};
+use iris_name::{FileId, Hash32, NoMemory, Text};
+use iris_node::{EntryNode, Link};
 use iris_treepaths::hashes::hash_held;
 use iris_treepaths::nodes::{
     between, copy_name, entry_at, hang, id_of, is_named, set_top, side, stands_above,
     stands_before, top_of,
 };
 use iris_treepaths::paths::{Crumb, above, climb, keep};
-use iris_cache::{Cache, Draft, Short};
-use iris_mac::{Keys, priority};
-use iris_name::{FileId, Hash32, NoMemory, Text};
-use iris_node::{EntryNode, Link};
+use iris_treepaths::recount;
 use std::alloc::Global;
 
 // The path to the seat of a new entry, and the link to what is to be split.
@@ -52,8 +52,10 @@ struct Halves {
 impl Halves {
     // Puts a crumb at the end of the path on its side.
     fn keep(&mut self, node: EntryNode, right: bool, hash: Hash32) -> Result<(), NoMemory>
-        ensures low { OnOk result (self.new.low.items ≡ cond right (self.old.low.items ++ record { node = node; right = right; hash = hash } ∷ []) self.old.low.items) }
-        ensures high { OnOk result (self.new.high.items ≡ cond right self.old.high.items (self.old.high.items ++ record { node = node; right = right; hash = hash } ∷ [])) }
+        ensures low { OnOk result (self.new.low.items ≡ cond right (self.old.low.items ++
+            record { node = node; right = right; hash = hash } ∷ []) self.old.low.items) }
+        ensures high { OnOk result (self.new.high.items ≡ cond right self.old.high.items
+            (self.old.high.items ++ record { node = node; right = right; hash = hash } ∷ [])) }
     {
         if right {
             keep(&mut self.low, node, right, hash)
@@ -75,11 +77,14 @@ fn find_seat(
     id: FileId,
 ) -> Result<Way, Short>
     requires linked { IsLinkToNamed top }
-    ensures reached { IfOk result (λ r. (old new : Shown) → (t : Treap Row) → (lasts : SpecName → Bool) → (p : SpecName) → StandsBelow old new cache.now t lasts draft.now p top t
-        → SeatReached (priority keys.now.order) id old new cache.now lasts draft.now p name.now t r.path.items r.at) }
+    ensures reached { IfOk result (λ r. (old new : Shown) → (t : Treap Row) → (lasts : SpecName →
+        Bool) → (p : SpecName) → StandsBelow old new cache.now t lasts draft.now p top t →
+        SeatReached (priority keys.now.order)
+        id old new cache.now lasts draft.now p name.now t r.path.items r.at) }
     ensures named { IfOk result (λ r. AreNamed r.path.items) }
     ensures linked { IfOk result (λ r. IsLinkToNamed r.at) }
-    ensures short { IfErr result (IsStop (Walks (met_along name.now) draft.now cache.now top) draft.now cache.now) }
+    ensures short { IfErr result
+        (IsStop (Walks (met_along name.now) draft.now cache.now top) draft.now cache.now) }
 {
     let rank = priority(keys, id);
     let mut path = Vec::new(alloc);
@@ -111,11 +116,13 @@ fn split(
     name: &Text,
 ) -> Result<Halves, Short>
     requires linked { IsLinkToNamed top }
-    ensures split { IfOk result (λ h. (old new : Shown) → (home t : Treap Row) → (lasts : SpecName → Bool) → (q : SpecName) → StandsBelow old new cache.now home lasts draft.now q top t
-        → IsSplit old cache.now home lasts draft.now name.now t h.low.items h.high.items) }
+    ensures split { IfOk result (λ h. (old new : Shown) → (home t : Treap Row) → (lasts : SpecName →
+        Bool) → (q : SpecName) → StandsBelow old new cache.now home lasts draft.now q top t →
+        IsSplit old cache.now home lasts draft.now name.now t h.low.items h.high.items) }
     ensures low { IfOk result (λ h. AreNamed h.low.items) }
     ensures high { IfOk result (λ h. AreNamed h.high.items) }
-    ensures short { IfErr result (IsStop (Splits draft.now cache.now name.now top) draft.now cache.now) }
+    ensures short { IfErr result
+        (IsStop (Splits draft.now cache.now name.now top) draft.now cache.now) }
 {
     let mut halves = Halves {
         low: Vec::new(alloc),
@@ -151,7 +158,8 @@ fn seat(
     requires high { IsLinkToNamed high }
     ensures link { IfOk result (λ l. LinksTo (between low high node) hash l) }
     ensures linked { IfOk result (λ l. 2 ≤ l.id.0) }
-    ensures set { OnOk result (IsPut draft.old draft.new (Some (name.Entry parent)) (between low high node)) }
+    ensures set { OnOk result
+        (IsPut draft.old draft.new (Some (name.Entry parent)) (between low high node)) }
 {
     let node = between(low, high, node);
     hang(draft, parent, node, hash)
@@ -168,10 +176,17 @@ fn plant(
 ) -> Result<(), Short>
     requires dir { IsDirectory draft.old cache.now dir }
     requires row { 2 ≤ node.id.0 }
-    ensures planted { OnOk result ((old new made : Shown) → (x : Row) → (rows : List Row) → ListedInHand keys.now.order dir x draft.old cache.now old new rows → IsRowNode x node → HoldsTrue old cache.now node → IsTree made → IsCountable made
-        → Rearranges new made keys.now.order dir rows (rows_with (is_row_before x.name) x rows) → IsSome (seen draft.old cache.now (name.Entry dir)) × Planted old dir (treap (up keys.now.order) rows) (treap (up keys.now.order) (rows_with (is_row_before x.name) x rows)) draft.old draft.new cache.now) }
+    ensures planted { OnOk result ((old new made : Shown) → (x : Row) →
+        (rows : List Row) → ListedInHand keys.now.order dir x draft.old cache.now old new rows →
+        IsRowNode x node → HoldsTrue old cache.now node → IsTree made → IsCountable made →
+        Rearranges new made keys.now.order dir rows (rows_with (is_row_before x.name) x rows) →
+        IsSome (seen draft.old cache.now (name.Entry dir)) ×
+        Planted old dir (treap (up keys.now.order) rows) (treap (up keys.now.order)
+        (rows_with (is_row_before x.name) x rows)) draft.old draft.new cache.now) }
     ensures entries { OnOk result (OnlyEntries draft.old draft.new) }
-    ensures short { IfErr result (λ e. (x : Row) → IsMetShort (ListedInHand keys.now.order dir x draft.old cache.now) (along_name node.name keys.now.order) draft.old cache.now dir e) }
+    ensures short { IfErr result (λ e. (x : Row) →
+        IsMetShort (ListedInHand keys.now.order dir x draft.old cache.now)
+        (along_name node.name keys.now.order) draft.old cache.now dir e) }
 {
     let name = copy_name(alloc, &node)?;
     let id = id_of(&node);
@@ -198,11 +213,18 @@ pub fn plan_insert(
     node: EntryNode,
 ) -> Result<(), Short>
     requires dir { IsDirectory draft.old cache.now dir }
-    ensures inserted { OnOk result ((old new made : Shown) → (x : Row) → (rows : List Row) → ListedInHand keys.now.order dir x draft.old cache.now old new rows → IsRowNode x node → HoldsTrue old cache.now node → IsTree made → IsCountable made
-        → Rearranges new made keys.now.order dir rows (rows_with (is_row_before x.name) x rows) → Drafts old made draft.new cache.now) }
-    ensures stays { OnOk result ((n : SpecName) → IsSome (seen draft.old cache.now n) → IsSome (seen draft.new cache.now n)) }
-    ensures others { OnOk result ((n : SpecName) → (IsEntryName n → ⊥) → drafted draft.new n ≡ drafted draft.old n) }
-    ensures short { IfErr result (λ e. (x : Row) → IsMetShort (ListedInHand keys.now.order dir x draft.old cache.now) (along_name node.name keys.now.order) draft.old cache.now dir e) }
+    ensures inserted { OnOk result ((old new made : Shown) → (x : Row) →
+        (rows : List Row) → ListedInHand keys.now.order dir x draft.old cache.now old new rows →
+        IsRowNode x node → HoldsTrue old cache.now node → IsTree made → IsCountable made →
+        Rearranges new made keys.now.order dir rows (rows_with (is_row_before x.name) x rows) →
+        Drafts old made draft.new cache.now) }
+    ensures stays { OnOk result ((n : SpecName) →
+        IsSome (seen draft.old cache.now n) → IsSome (seen draft.new cache.now n)) }
+    ensures others { OnOk result ((n : SpecName) →
+        (IsEntryName n → ⊥) → drafted draft.new n ≡ drafted draft.old n) }
+    ensures short { IfErr result (λ e. (x : Row) →
+        IsMetShort (ListedInHand keys.now.order dir x draft.old cache.now)
+        (along_name node.name keys.now.order) draft.old cache.now dir e) }
 {
     if id_of(&node).0 < 2 {
         return Ok(());

@@ -14,10 +14,10 @@ ghost use Rattle.iris_dirtree.specs.Found.{entry_of_node};
 ghost use Rattle.iris_dirtree.specs.Piles.{Tables, Piled, Piling, IsUnderShort};
 
 use crate::finding::{as_entry, entry_seen, longest_way, top_seen};
-use iris_treepaths::nodes::stands_before;
 use iris_cache::{Cache, Draft, Short};
 use iris_name::{FileId, Name, Text, Texts};
 use iris_node::{EntryNode, Link};
+use iris_treepaths::nodes::stands_before;
 use std::alloc::Global;
 
 // The entry of an id, where it is seen.
@@ -53,8 +53,12 @@ fn pass(
     after: &Text,
     waiting: &mut Vec<FileId>,
 ) -> Result<(), Short>
-    ensures passed { OnOk result ((old new : Shown) → (all begin : Treap Row) → (left : List Row) → Tables draft.now cache.now old new → Piling old new draft.now cache.now after.now all begin left waiting.old.items link 1 → Piled new draft.now cache.now all left waiting.new.items) }
-    ensures short { IfErr result (λ e. IsUnderShort draft.now cache.now after.now waiting.old.items link e) }
+    ensures passed { OnOk result ((old new : Shown) →
+        (all begin : Treap Row) → (left : List Row) → Tables draft.now cache.now old new →
+        Piling old new draft.now cache.now after.now all begin left waiting.old.items link 1 →
+        Piled new draft.now cache.now all left waiting.new.items) }
+    ensures short { IfErr result (λ e.
+        IsUnderShort draft.now cache.now after.now waiting.old.items link e) }
 {
     let mut at = link;
     for _step in 0..longest_way(draft, cache) {
@@ -84,8 +88,12 @@ pub fn plan_after(
     most: u32,
 ) -> Result<Texts, Short>
     requires dir { IsDirectory draft.now cache.now dir }
-    ensures page { IfOk result (λ names. (key : List ℕ) → (old new : Shown) → (rows : List Row) → Listed key dir draft.now cache.now old new rows → names ≡ map row_name (following after.now most rows)) }
-    ensures short { IfErr result (λ e. (key : List ℕ) → IsMetShort (Listed key dir draft.now cache.now) (along_page after.now most key) draft.now cache.now dir e) }
+    ensures page { IfOk result (λ names. (key : List ℕ) →
+        (old new : Shown) → (rows : List Row) → Listed key dir draft.now cache.now old new rows →
+        names ≡ map row_name (following after.now most rows)) }
+    ensures short { IfErr result (λ e. (key : List ℕ) →
+        IsMetShort (Listed key dir draft.now cache.now)
+        (along_page after.now most key) draft.now cache.now dir e) }
 {
     let mut names = Texts::new(alloc);
     let mut waiting = Vec::new(alloc);

@@ -12,10 +12,10 @@ ghost use Rattle.iris_dirtree.specs.Turns.{IsTurn, block_found};
 ghost use Rattle.iris_dirtree.specs.Below.{RootIs, IsBelowLack};
 
 use crate::finding::{ANY_HASH, entry_seen, longest_way};
-use iris_treepaths::nodes::own_blocks;
 use iris_cache::{Cache, Draft, Short};
 use iris_name::{Expect, FileId};
 use iris_node::{Body, EntryNode, Link};
+use iris_treepaths::nodes::own_blocks;
 
 // Where a block lies, as seen from an entry: its own, or at a place of the walk under a link.
 #[derive(Clone, Copy)]
@@ -36,14 +36,16 @@ fn past_link(link: Option<Link>, at: u64) -> Option<u64>
 
 // A place past the blocks of a file, or past those inside a directory.
 fn past_own(entry: &EntryNode, at: u64) -> Option<u64>
-    ensures { MatchOption result (at < own_blocks entry.now.body) (λ rest. at ≡ own_blocks entry.now.body + rest) }
+    ensures { MatchOption result (at < own_blocks entry.now.body) (λ rest.
+        at ≡ own_blocks entry.now.body + rest) }
 {
     at.checked_sub(own_blocks(entry))
 }
 
 // A place past all blocks at and below an entry.
 fn past_all(entry: &EntryNode, at: u64) -> Option<u64>
-    ensures { MatchOption result (at < node_blocks entry.now) (λ rest. at ≡ node_blocks entry.now + rest) }
+    ensures { MatchOption result (at < node_blocks entry.now) (λ rest.
+        at ≡ node_blocks entry.now + rest) }
 {
     past_link(entry.right, past_own(entry, past_link(entry.left, at)?)?)
 }
@@ -66,7 +68,9 @@ fn next_turn(entry: &EntryNode, at: u64) -> Turn
 
 // A place past all blocks at and below a root.
 fn past_root(draft: &Draft, cache: &Cache, root: FileId, at: u64) -> Result<Option<u64>, Short>
-    ensures past { IfOk result (λ r. (old new : Shown) → (u : Unfolded) → RootIs root draft.now cache.now old new u → MatchOption r (at < blocks u) (λ rest. at ≡ blocks u + rest)) }
+    ensures past { IfOk result (λ r. (old new : Shown) →
+        (u : Unfolded) → RootIs root draft.now cache.now old new u →
+        MatchOption r (at < blocks u) (λ rest. at ≡ blocks u + rest)) }
     ensures need { IfErr result (λ e. e ≡ Short.Need (name.Entry root) (Expect.Hash ANY_HASH)) }
     ensures missing { IfErr result (λ _. known draft.now cache.now (name.Entry root) ≡ None) }
 {
@@ -84,8 +88,10 @@ fn block_below(
     at: u64,
 ) -> Result<Option<(FileId, u32)>, Short>
     requires { root.0 < 2 }
-    ensures place { IfOk result (λ r. (old new : Shown) → (u : Unfolded) → RootIs root draft.now cache.now old new u → block_found r ≡ slice_get (walk u) at) }
-    ensures there { IfOk result (λ r. IfSome r (λ b. IsSome (seen draft.now cache.now (name.Entry b.0)))) }
+    ensures place { IfOk result (λ r. (old new : Shown) → (u : Unfolded) →
+        RootIs root draft.now cache.now old new u → block_found r ≡ slice_get (walk u) at) }
+    ensures there { IfOk result (λ r.
+        IfSome r (λ b. IsSome (seen draft.now cache.now (name.Entry b.0)))) }
     ensures short { IfErr result (λ e. IsBelowLack root draft.now cache.now at e) }
 {
     let mut link = Link {
@@ -114,8 +120,11 @@ fn block_below(
 
 /// The block at a place of the walk over all blocks, of the visible root and then of the trash: its file, and its place there.
 pub fn plan_place(draft: &Draft, cache: &Cache, at: u64) -> Result<Option<(FileId, u32)>, Short>
-    ensures place { IfOk result (λ r. (old new : Shown) → (root trash : Unfolded) → Rooted draft.now cache.now old new root trash → block_found r ≡ slice_get (whole_walk root trash) at) }
-    ensures there { IfOk result (λ r. IfSome r (λ b. IsSome (seen draft.now cache.now (name.Entry b.0)))) }
+    ensures place { IfOk result (λ r. (old new : Shown) →
+        (root trash : Unfolded) → Rooted draft.now cache.now old new root trash →
+        block_found r ≡ slice_get (whole_walk root trash) at) }
+    ensures there { IfOk result (λ r.
+        IfSome r (λ b. IsSome (seen draft.now cache.now (name.Entry b.0)))) }
     ensures short { IfErr result (λ e. IsPlaceLack draft.now cache.now at e) }
 {
     let Some(rest) = past_root(draft, cache, FileId(0), at)? else {

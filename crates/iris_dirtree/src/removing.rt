@@ -21,16 +21,16 @@ ghost use Rattle.iris_treepaths.specs.Planted.{Planted};
 ghost use Rattle.iris_treepaths.specs.Rows.{IsCountable, Rearranges, Row, treap_of_rows, up};
 ghost use Rattle.iris_treepaths.specs.Ways.{Any, has_name, near_name};
 
-use iris_treepaths::recount;
 use crate::finding::longest_way;
-use iris_treepaths::nodes::{
-    copy_entry, entry_at, is_named, outranks, set_top, side, stands_before, top_of,
-};
-use iris_treepaths::paths::{Crumb, above, climb, keep};
 use iris_cache::{Cache, Draft, Short};
 use iris_mac::{Keys, priority};
 use iris_name::{FileId, Name, NoMemory, Text};
 use iris_node::{EntryNode, Link, Node};
+use iris_treepaths::nodes::{
+    copy_entry, entry_at, is_named, outranks, set_top, side, stands_before, top_of,
+};
+use iris_treepaths::paths::{Crumb, above, climb, keep};
+use iris_treepaths::recount;
 use std::alloc::Global;
 
 // The row of a name, and the path to it.
@@ -56,10 +56,12 @@ fn find_row(
     name: &Text,
 ) -> Result<Found, Short>
     requires { IsLinkToNamed top }
-    ensures found { IfOk result (λ r. (old new : Shown) → (t : Treap Row) → (lasts : SpecName → Bool) → (p : SpecName) → StandsBelow old new cache.now t lasts draft.now p top t
-        → FoundRow old new cache.now lasts draft.now p name.now t r.path.items r.row) }
+    ensures found { IfOk result (λ r. (old new : Shown) → (t : Treap Row) → (lasts : SpecName →
+        Bool) → (p : SpecName) → StandsBelow old new cache.now t lasts draft.now p top t →
+        FoundRow old new cache.now lasts draft.now p name.now t r.path.items r.row) }
     ensures named { IfOk result (λ r. AreNamed r.path.items) }
-    ensures short { IfErr result (IsStop (Walks (met_near name.now) draft.now cache.now top) draft.now cache.now) }
+    ensures short { IfErr result
+        (IsStop (Walks (met_near name.now) draft.now cache.now top) draft.now cache.now) }
 {
     let mut path = Vec::new(alloc);
     let mut at = top;
@@ -133,21 +135,30 @@ fn merge_sides(
     path: Vec<Crumb>,
 ) -> Result<Merged, Short>
     requires { AreNamed path.items }
-    ensures merged { IfOk result (λ r. (old new : Shown) → (home u : Treap Row) → (lasts : SpecName → Bool) → (met : List Row)
-        → Merging old new cache.now home lasts draft.now (up keys.now.order) met u path.items row.now.left row.now.right → IsMerged old cache.now home lasts draft.now u r.path.items r.end) }
+    ensures merged { IfOk result (λ r. (old new : Shown) → (home u : Treap Row) →
+        (lasts : SpecName → Bool) → (met : List Row) → Merging old new cache.now
+        home lasts draft.now (up keys.now.order) met u path.items row.now.left row.now.right →
+        IsMerged old cache.now home lasts draft.now u r.path.items r.end) }
     ensures named { IfOk result (λ r. AreNamed r.path.items) }
     ensures linked { IfOk result (λ r. IsLinkToNamed r.end) }
-    ensures short { IfErr result (IsStop (Merges draft.now cache.now (up keys.now.order) path.items row.now.left row.now.right) draft.now cache.now) }
+    ensures short { IfErr result (IsStop (Merges draft.now cache.now
+        (up keys.now.order) path.items row.now.left row.now.right) draft.now cache.now) }
 {
     let mut path = path;
     let mut less = with_rank(keys, row.left);
     let mut more = with_rank(keys, row.right);
     for step in 0..longest_way(draft, cache) {
         let Some(x) = less else {
-            return Ok(Merged { path, end: link_of(more) });
+            return Ok(Merged {
+                path,
+                end: link_of(more),
+            });
         };
         let Some(y) = more else {
-            return Ok(Merged { path, end: link_of(less) });
+            return Ok(Merged {
+                path,
+                end: link_of(less),
+            });
         };
         let right = outranks(x.rank, x.link.id, y.rank, y.link.id);
         let link = chosen(right, x.link, y.link);
@@ -168,8 +179,11 @@ fn move_rest(
     end: Option<Link>,
     parent: FileId,
 ) -> Result<(), NoMemory>
-    ensures moved { OnOk result ((k : AnyLink) → (e : EntryFields) → end ≡ Some k → seen draft.old cache.now (Name.Entry k.id) ≡ Some (Node.Entry e) → IsPut draft.old draft.new (Some (Name.Entry parent)) e) }
-    ensures missing { OnOk result ((k : AnyLink) → end ≡ Some k → seen draft.old cache.now (Name.Entry k.id) ≡ None → draft.new ≡ draft.old) }
+    ensures moved { OnOk result ((k : AnyLink) → (e : EntryFields) →
+        end ≡ Some k → seen draft.old cache.now (Name.Entry k.id) ≡ Some (Node.Entry e) →
+        IsPut draft.old draft.new (Some (Name.Entry parent)) e) }
+    ensures missing { OnOk result ((k : AnyLink) →
+        end ≡ Some k → seen draft.old cache.now (Name.Entry k.id) ≡ None → draft.new ≡ draft.old) }
     ensures nothing { OnOk result (end ≡ None → draft.new ≡ draft.old) }
     ensures entries { OnOk result (OnlyEntries draft.old draft.new) }
 {
@@ -193,13 +207,22 @@ fn unplant(
     name: &Text,
 ) -> Result<EntryNode, Short>
     requires { IsDirectory draft.old cache.now dir }
-    ensures planted { IfOk result (λ e. (old new : Shown) → (x : Row) → (rows : List Row) → Listed keys.now.order dir draft.old cache.now old new rows → Any (λ r. r ≡ x) rows → x.name ≡ name.now
-        → blocks (treap_of_rows keys.now.order (rows_without (has_name name.now) rows)) < 2 ^ 64 → Planted old dir (treap (up keys.now.order) rows) (treap (up keys.now.order) (rows_without (has_name name.now) rows)) draft.old draft.new cache.now) }
+    ensures planted { IfOk result (λ e. (old new : Shown) →
+        (x : Row) → (rows : List Row) → Listed keys.now.order dir draft.old cache.now old new rows →
+        Any (λ r. r ≡ x) rows → x.name ≡ name.now →
+        blocks (treap_of_rows keys.now.order (rows_without (has_name name.now) rows)) < 2 ^ 64 →
+        Planted old dir (treap (up keys.now.order) rows) (treap (up keys.now.order)
+        (rows_without (has_name name.now) rows)) draft.old draft.new cache.now) }
     ensures there { OnOk result (IsSome (seen draft.old cache.now (Name.Entry dir))) }
-    ensures row { IfOk result (λ e. (old new : Shown) → (x : Row) → (rows : List Row) → Listed keys.now.order dir draft.old cache.now old new rows → Any (λ r. r ≡ x) rows → x.name ≡ name.now → IsRowNode x e × HoldsTrue old cache.now e) }
-    ensures stays { IfOk result (λ e. (n : SpecName) → IsSome (seen draft.old cache.now n) → (n ≡ Name.Entry e.id → ⊥) → IsSome (seen draft.new cache.now n)) }
-    ensures others { OnOk result ((n : SpecName) → (IsEntryName n → ⊥) → drafted draft.new n ≡ drafted draft.old n) }
-    ensures short { IfErr result (IsMetShort (Listed keys.now.order dir draft.old cache.now) (near_name name.now keys.now.order) draft.old cache.now dir) }
+    ensures row { IfOk result (λ e. (old new : Shown) →
+        (x : Row) → (rows : List Row) → Listed keys.now.order dir draft.old cache.now old new rows →
+        Any (λ r. r ≡ x) rows → x.name ≡ name.now → IsRowNode x e × HoldsTrue old cache.now e) }
+    ensures stays { IfOk result (λ e. (n : SpecName) → IsSome (seen draft.old cache.now n) →
+        (n ≡ Name.Entry e.id → ⊥) → IsSome (seen draft.new cache.now n)) }
+    ensures others { OnOk result ((n : SpecName) →
+        (IsEntryName n → ⊥) → drafted draft.new n ≡ drafted draft.old n) }
+    ensures short { IfErr result (IsMetShort (Listed keys.now.order dir draft.old cache.now)
+        (near_name name.now keys.now.order) draft.old cache.now dir) }
 {
     let top = top_of(draft, cache, dir)?;
     let Found { path, row } = find_row(alloc, draft, cache, top, name)?;
@@ -236,12 +259,18 @@ pub fn plan_remove(
     name: &Text,
 ) -> Result<EntryNode, Short>
     requires dir { IsDirectory draft.old cache.now dir }
-    ensures removed { IfOk result (λ e. (old new made : Shown) → (x : Row) → (rows : List Row) → Listed keys.now.order dir draft.old cache.now old new rows → Any (λ r. r ≡ x) rows → x.name ≡ name.now
-        → IsTree made → IsCountable made → Rearranges new made keys.now.order dir rows (rows_without (has_name name.now) rows) → Holding old made (Some x) draft.new cache.now × IsRowNode x e × HoldsTrue old cache.now e) }
+    ensures removed { IfOk result (λ e. (old new made : Shown) →
+        (x : Row) → (rows : List Row) → Listed keys.now.order dir draft.old cache.now old new rows →
+        Any (λ r. r ≡ x) rows → x.name ≡ name.now → IsTree made → IsCountable made →
+        Rearranges new made keys.now.order dir rows (rows_without (has_name name.now) rows) →
+        Holding old made (Some x) draft.new cache.now × IsRowNode x e × HoldsTrue old cache.now e) }
     ensures bare { IfOk result (λ e. (e.left ≡ None) × (e.right ≡ None)) }
-    ensures stays { IfOk result (λ e. (n : SpecName) → IsSome (seen draft.old cache.now n) → (n ≡ Name.Entry e.id → ⊥) → IsSome (seen draft.new cache.now n)) }
-    ensures others { OnOk result ((n : SpecName) → (IsEntryName n → ⊥) → drafted draft.new n ≡ drafted draft.old n) }
-    ensures short { IfErr result (IsMetShort (Listed keys.now.order dir draft.old cache.now) (near_name name.now keys.now.order) draft.old cache.now dir) }
+    ensures stays { IfOk result (λ e. (n : SpecName) → IsSome (seen draft.old cache.now n) →
+        (n ≡ Name.Entry e.id → ⊥) → IsSome (seen draft.new cache.now n)) }
+    ensures others { OnOk result ((n : SpecName) →
+        (IsEntryName n → ⊥) → drafted draft.new n ≡ drafted draft.old n) }
+    ensures short { IfErr result (IsMetShort (Listed keys.now.order dir draft.old cache.now)
+        (near_name name.now keys.now.order) draft.old cache.now dir) }
 {
     let entry = unplant(alloc, draft, cache, keys, dir, name)?;
     recount(alloc, draft, cache, dir)?;

@@ -31,7 +31,8 @@ pub trait Log {
         ensures err { OnErr result (spare self.new ≡ spare self.old) }
         ensures count { count self.new ≡ count self.old }
         ensures notes { notes self.new ≡ notes self.old }
-        ensures bound { OnOk result (IsBounded (notes self.new) (count self.new + spare self.new)) };
+        ensures bound { OnOk result (IsBounded (notes self.new) (count self.new +
+            spare self.new)) };
 
     /// Puts a note last. It takes no memory.
     fn note(&mut self, note: Note)

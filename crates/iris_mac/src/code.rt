@@ -63,7 +63,8 @@ pub(crate) fn begin(key: &[u8]) -> Sha256
 // The code of the text that the hasher has after the key's block.
 #[tactic(auto, unfolding(iris_name::specs::Hmac::hmac))]
 pub(crate) fn finish(key: &[u8], inner: Sha256) -> [u8; 32]
-    ensures { (text : List ℕ) → Holds256 inner (padded_with 0x36 (key_block key.now) ++ text) → result ≡ hmac key.now text }
+    ensures { (text : List ℕ) →
+        Holds256 inner (padded_with 0x36 (key_block key.now) ++ text) → result ≡ hmac key.now text }
 {
     let digest: [u8; 32] = inner.finalize();
     let mut outer = Sha256::new();

@@ -111,8 +111,10 @@ fn push_all(alloc: Global, names: &mut Vec<Text>, from: &[Text]) -> Result<(), N
 
 // The path whose names follow the first of these pieces.
 fn slashed(alloc: Global, pieces: &[&str]) -> Result<Path, PathError>
-    ensures path { IfOk result (λ path. slashed_names (map (λ piece. piece.now) pieces.now) ≡ Some path) }
-    ensures bad { IfErr result (λ error. error ≡ BadPath → slashed_names (map (λ piece. piece.now) pieces.now) ≡ None) }
+    ensures path { IfOk result (λ path.
+        slashed_names (map (λ piece. piece.now) pieces.now) ≡ Some path) }
+    ensures bad { IfErr result (λ error. error ≡ BadPath →
+        slashed_names (map (λ piece. piece.now) pieces.now) ≡ None) }
 {
     if pieces.len() < 2 || !pieces[0].is_empty() {
         return Err(PathError::BadPath);

@@ -58,11 +58,14 @@ impl Model for EntryNode {
 
     ghost Value = { EntryFields };
 
-    ghost view = { λ e. record { id = e.id; name = e.name; left = e.left; right = e.right; body = e.body } };
+    ghost view = { λ e.
+        record { id = e.id; name = e.name; left = e.left; right = e.right; body = e.body } };
 
-    ghost invariant = { λ e. IsEntry (record { id = e.id; name = e.name; left = e.left; right = e.right; body = e.body }) };
+    ghost invariant = { λ e. IsEntry
+        (record { id = e.id; name = e.name; left = e.left; right = e.right; body = e.body }) };
 
-    ghost inverse = { λ e. record { id = e.id; name = e.name; left = e.left; right = e.right; body = e.body } };
+    ghost inverse = { λ e.
+        record { id = e.id; name = e.name; left = e.left; right = e.right; body = e.body } };
 }
 
 /// A part of a file's version tree: a range of places whose versions aren't all equal, as its two halves.
@@ -82,11 +85,14 @@ impl Model for PartNode {
 
     ghost Value = { PartFields };
 
-    ghost view = { λ p. record { file = p.file; level = p.level; index = p.index; low = p.low; high = p.high } };
+    ghost view = { λ p.
+        record { file = p.file; level = p.level; index = p.index; low = p.low; high = p.high } };
 
-    ghost invariant = { λ p. IsPart (record { file = p.file; level = p.level; index = p.index; low = p.low; high = p.high }) };
+    ghost invariant = { λ p. IsPart
+        (record { file = p.file; level = p.level; index = p.index; low = p.low; high = p.high }) };
 
-    ghost inverse = { λ p. record { file = p.file; level = p.level; index = p.index; low = p.low; high = p.high } };
+    ghost inverse = { λ p.
+        record { file = p.file; level = p.level; index = p.index; low = p.low; high = p.high } };
 }
 
 /// A node of the tree.

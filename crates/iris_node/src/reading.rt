@@ -92,7 +92,8 @@ pub fn decode(alloc: Global, bytes: &[u8]) -> Result<Option<Node>, NoMemory>
     // What is read is a node that is spelled so.
     ensures found { IfOk result (λ o. IfSome o (λ n. IsNode n × (bytes.now ≡ spelling n))) }
     // What spells a node is read as that node.
-    ensures only { (n : nodes.Node) → IsNode n → bytes.now ≡ spelling n → IfOk result (λ o. o ≡ Some n) }
+    ensures only { (n : nodes.Node) →
+        IsNode n → bytes.now ≡ spelling n → IfOk result (λ o. o ≡ Some n) }
 {
     node_of(alloc, bytes)
 }

@@ -88,7 +88,8 @@ fn put_body(sheet: &mut Sheet, b: &Body)
 // An entry's record; its name has at most 255 bytes.
 fn put_entry(sheet: &mut Sheet, e: &EntryNode)
     requires { length sheet.old ≡ 0 }
-    ensures bytes { sheet.new ≡ sheet.old ++ (entry_format e.now ∷ kind_byte e.now.body ∷ spelled_entry e.now) }
+    ensures bytes { sheet.new ≡
+        sheet.old ++ (entry_format e.now ∷ kind_byte e.now.body ∷ spelled_entry e.now) }
     ensures fits { IsEntry e.now × FitsEntry e.now }
 {
     let name = e.name.as_str().as_bytes();

@@ -24,7 +24,8 @@ pub(crate) enum Place {
 // The directory at which resolving has come to its end, or why there is none.
 fn enter_at(draft: &Draft, cache: &Cache, found: Found) -> Place
     requires { AreInSight draft.now cache.now found }
-    ensures { (names : List (List ℕ)) → Follows draft.now cache.now names found → IsEntered draft.now cache.now names result }
+    ensures { (names : List (List ℕ)) →
+        Follows draft.now cache.now names found → IsEntered draft.now cache.now names result }
 {
     draft.sound();
     cache.sound();
@@ -50,7 +51,8 @@ fn enter_at(draft: &Draft, cache: &Cache, found: Found) -> Place
 /// The directory at a path, or why there is none.
 pub(crate) fn enter(draft: &Draft, cache: &Cache, names: &[Text]) -> Result<Place, Short>
     ensures entered { IfOk result (IsEntered draft.now cache.now names.now) }
-    ensures short { IfErr result (λ e. (key : List ℕ) → IsPathLack key every (IsOnTrail key names.now) draft.now cache.now e) }
+    ensures short { IfErr result (λ e. (key : List ℕ) →
+        IsPathLack key every (IsOnTrail key names.now) draft.now cache.now e) }
 {
     let found = follow(draft, cache, names)?;
     Ok(enter_at(draft, cache, found))
@@ -61,7 +63,8 @@ fn place_in(draft: &Draft, cache: &Cache, names: &[Text], dir: FileId) -> Result
     requires some { 0 < length names.now }
     requires entered { IsEntered draft.now cache.now (parent names.now) (Place.In dir) }
     ensures place { IfOk result (IsDestination draft.now cache.now names.now) }
-    ensures short { IfErr result (λ e. (key : List ℕ) → IsPathLack key every (IsOnTrail key names.now) draft.now cache.now e) }
+    ensures short { IfErr result (λ e. (key : List ℕ) →
+        IsPathLack key every (IsOnTrail key names.now) draft.now cache.now e) }
 {
     draft.sound();
     cache.sound();
@@ -76,7 +79,8 @@ fn place_in(draft: &Draft, cache: &Cache, names: &[Text], dir: FileId) -> Result
 /// The directory in which a new path is to stand, or why it can't.
 pub(crate) fn place_of(draft: &Draft, cache: &Cache, names: &[Text]) -> Result<Place, Short>
     ensures place { IfOk result (IsDestination draft.now cache.now names.now) }
-    ensures short { IfErr result (λ e. (key : List ℕ) → IsPathLack key every (IsOnTrail key names.now) draft.now cache.now e) }
+    ensures short { IfErr result (λ e. (key : List ℕ) →
+        IsPathLack key every (IsOnTrail key names.now) draft.now cache.now e) }
 {
     if names.is_empty() {
         return Ok(Place::Not {

@@ -32,7 +32,8 @@ pub(crate) fn lone_entry(
     body: Body,
 ) -> Result<EntryNode, NoMemory>
     requires { IsBody body }
-    ensures { IfOk result (λ e. e ≡ record { id = id; name = name.now; left = None; right = None; body = body }) }
+    ensures { IfOk result (λ e.
+        e ≡ record { id = id; name = name.now; left = None; right = None; body = body }) }
 {
     let name = name.copy(alloc)?;
     if id.0 < 2 || !is_file_name(name.as_str()) {
@@ -73,12 +74,19 @@ pub fn plan_make(
     id: FileId,
     dir: bool,
 ) -> Result<Option<PlainError>, Short>
-    ensures verdict { IfOk result (λ r. (met : List (List ℕ) → MetSeen) (old new : Shown) → Pictured keys.now.order met draft.old cache.now old new → r ≡ no_place met false path.now) }
-    ensures made { IfOk result (λ r. r ≡ None → (met : List (List ℕ) → MetSeen) (old new made : Shown) (folder above : SpecId) (rows : List Row) → Pictured keys.now.order met draft.old cache.now old new → IsNew id old new
-        → Resolves new keys.now.order (parent path.now) (CameTo folder above) → HasRows new keys.now.order folder rows → IsTree made → IsCountable made
-        → Rearranges new made keys.now.order folder rows (rows_with (is_row_before (last path.now)) (new_row id.0 (last path.now) dir) rows) → Drafts old made draft.new cache.now) }
+    ensures verdict { IfOk result (λ r. (met : List (List ℕ) → MetSeen) (old new : Shown) →
+        Pictured keys.now.order met draft.old cache.now old new → r ≡ no_place met false path.now) }
+    ensures made { IfOk result (λ r. r ≡ None → (met : List (List ℕ) →
+        MetSeen) (old new made : Shown) (folder above : SpecId) (rows : List Row) →
+        Pictured keys.now.order met draft.old cache.now old new →
+        IsNew id old new → Resolves new keys.now.order (parent path.now) (CameTo folder above) →
+        HasRows new keys.now.order folder rows →
+        IsTree made → IsCountable made → Rearranges new made keys.now.order folder rows
+        (rows_with (is_row_before (last path.now)) (new_row id.0 (last path.now) dir) rows) →
+        Drafts old made draft.new cache.now) }
     ensures unchanged { IfOk result (λ r. IsSome r → draft.new ≡ draft.old) }
-    ensures short { IfErr result (IsPathShort keys.now.order (IsNew id) (IsOnTrail keys.now.order path.now) draft.old cache.now) }
+    ensures short { IfErr result (IsPathShort keys.now.order
+        (IsNew id) (IsOnTrail keys.now.order path.now) draft.old cache.now) }
 {
     let names = path.names();
     let folder = match place_of(draft, cache, names)? {

@@ -59,7 +59,8 @@ fn source_at(draft: &Draft, cache: &Cache, found: Found, from: &[Text], to: &[Te
 // The directory out of which a path is moved to another, or why it can't be.
 fn source_of(draft: &Draft, cache: &Cache, from: &[Text], to: &[Text]) -> Result<Place, Short>
     ensures source { IfOk result (IsSource draft.now cache.now from.now to.now) }
-    ensures short { IfErr result (λ e. (key : List ℕ) → IsPathLack key every (IsOnTrail key from.now) draft.now cache.now e) }
+    ensures short { IfErr result (λ e. (key : List ℕ) →
+        IsPathLack key every (IsOnTrail key from.now) draft.now cache.now e) }
 {
     if from.is_empty() {
         return Ok(Place::Not {
@@ -79,7 +80,8 @@ fn keeps_rules(entry: &EntryNode)
 
 // An entry alone, under another name.
 fn named_anew(alloc: Global, entry: EntryNode, name: &Text) -> Result<EntryNode, NoMemory>
-    ensures { IfOk result (λ e. e ≡ record { id = entry.id; name = name.now; left = None; right = None; body = entry.body }) }
+    ensures { IfOk result (λ e. e ≡
+        record { id = entry.id; name = name.now; left = None; right = None; body = entry.body }) }
 {
     keeps_rules(&entry);
     lone_entry(alloc, entry.id, name, entry.body)
@@ -97,9 +99,13 @@ fn carry(
     label: &Text,
 ) -> Result<(), Short>
     requires out { IsDirectory draft.old cache.now out }
-    ensures carried { OnOk result ((old new mid made : Shown) (x : Row) (rows others : List Row) → IsTree old → IsTree new → Drafts old new draft.old cache.now → IsWhole old
-        → Takes keys.now.order out name.now x rows new mid → Puts keys.now.order into label.now x others mid made → Drafts old made draft.new cache.now) }
-    ensures short { IfErr result (IsCarryShort keys.now.order out name.now into label.now draft.old cache.now) }
+    ensures carried { OnOk result ((old new mid made : Shown) (x : Row) (rows others : List Row) →
+        IsTree old → IsTree new → Drafts old new draft.old cache.now →
+        IsWhole old → Takes keys.now.order out name.now x rows new mid →
+        Puts keys.now.order into label.now x others mid made →
+        Drafts old made draft.new cache.now) }
+    ensures short { IfErr result
+        (IsCarryShort keys.now.order out name.now into label.now draft.old cache.now) }
 {
     let entry = plan_remove(alloc, draft, cache, keys, out, name)?;
     let node = named_anew(alloc, entry, label)?;
@@ -120,11 +126,17 @@ pub fn plan_rename(
     from: &Path,
     to: &Path,
 ) -> Result<Option<PlainError>, Short>
-    ensures verdict { IfOk result (λ r. (met : List (List ℕ) → MetSeen) (old new : Shown) → Pictured keys.now.order met draft.old cache.now old new
-        → r ≡ move_checks (is_top from.now) (met from.now) (is_front from.now to.now) (no_place met false to.now)) }
-    ensures moved { IfOk result (λ r. r ≡ None → (met : List (List ℕ) → MetSeen) (old new mid made : Shown) (id out into beyond : SpecId) (x : Row) (rows others : List Row) → Pictured keys.now.order met draft.old cache.now old new → IsWhole old
-        → Resolves new keys.now.order from.now (CameTo id out) → Resolves new keys.now.order (parent to.now) (CameTo into beyond)
-        → Takes keys.now.order out (last from.now) x rows new mid → Puts keys.now.order into (last to.now) x others mid made → Drafts old made draft.new cache.now) }
+    ensures verdict { IfOk result (λ r. (met : List (List ℕ) → MetSeen) (old new : Shown) →
+        Pictured keys.now.order met draft.old cache.now old new → r ≡ move_checks (is_top from.now)
+        (met from.now) (is_front from.now to.now) (no_place met false to.now)) }
+    ensures moved { IfOk result (λ r. r ≡ None → (met : List (List ℕ) →
+        MetSeen) (old new mid made : Shown) (id out into beyond : SpecId) (x : Row)
+        (rows others : List Row) → Pictured keys.now.order met draft.old cache.now old new →
+        IsWhole old → Resolves new keys.now.order from.now (CameTo id out) →
+        Resolves new keys.now.order (parent to.now) (CameTo into beyond) →
+        Takes keys.now.order out (last from.now) x rows new mid →
+        Puts keys.now.order into (last to.now) x others mid made →
+        Drafts old made draft.new cache.now) }
     ensures unchanged { IfOk result (λ r. IsSome r → draft.new ≡ draft.old) }
     ensures short { IfErr result (IsMoveShort keys.now.order from.now to.now draft.old cache.now) }
 {

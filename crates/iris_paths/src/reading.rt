@@ -48,8 +48,11 @@ fn standing(draft: &Draft, cache: &Cache, id: FileId) -> Seen
 
 // What resolving meets.
 fn meet(draft: &Draft, cache: &Cache, names: &[Text]) -> Result<Seen, Short>
-    ensures met { IfOk result (λ s. (key : List ℕ) (met : List (List ℕ) → MetSeen) (old new : Shown) → Pictured key met draft.now cache.now old new → met names.now ≡ s) }
-    ensures short { IfErr result (λ e. (key : List ℕ) → IsPathLack key every (IsOnTrail key names.now) draft.now cache.now e) }
+    ensures met { IfOk result (λ s.
+        (key : List ℕ) (met : List (List ℕ) → MetSeen) (old new : Shown) →
+        Pictured key met draft.now cache.now old new → met names.now ≡ s) }
+    ensures short { IfErr result (λ e. (key : List ℕ) →
+        IsPathLack key every (IsOnTrail key names.now) draft.now cache.now e) }
 {
     match follow(draft, cache, names)? {
         Found::At { id, .. } => Ok(standing(draft, cache, id)),
@@ -60,9 +63,12 @@ fn meet(draft: &Draft, cache: &Cache, names: &[Text]) -> Result<Seen, Short>
 
 /// Whether a directory stands at a path, and the length of a file there.
 pub fn plan_stat(draft: &Draft, cache: &Cache, path: &Path) -> Result<Reply, Short>
-    ensures reply { IfOk result (λ reply. (key : List ℕ) (met : List (List ℕ) → MetSeen) (old new : Shown) → Pictured key met draft.now cache.now old new
-        → Judged (unresolved (met path.now)) (reply ≡ Stat (is_directory_seen (met path.now)) (size_of (met path.now))) reply) }
-    ensures short { IfErr result (λ e. (key : List ℕ) → IsPathLack key every (IsOnTrail key path.now) draft.now cache.now e) }
+    ensures reply { IfOk result (λ reply.
+        (key : List ℕ) (met : List (List ℕ) → MetSeen) (old new : Shown) →
+        Pictured key met draft.now cache.now old new → Judged (unresolved (met path.now)) (reply ≡
+        Stat (is_directory_seen (met path.now)) (size_of (met path.now))) reply) }
+    ensures short { IfErr result (λ e. (key : List ℕ) →
+        IsPathLack key every (IsOnTrail key path.now) draft.now cache.now e) }
 {
     let here = meet(draft, cache, path.names())?;
     match stat_checks(here) {
@@ -82,9 +88,11 @@ pub fn plan_list(
     path: &Path,
     after: &Text,
 ) -> Result<Reply, Short>
-    ensures reply { IfOk result (λ reply. (key : List ℕ) (met : List (List ℕ) → MetSeen) (old new : Shown) → Pictured key met draft.now cache.now old new
-        → Judged (no_directory (met path.now)) (IsListing new key path.now after.now reply) reply) }
-    ensures short { IfErr result (λ e. (key : List ℕ) → IsPathShort key every (IsListed key path.now after.now) draft.now cache.now e) }
+    ensures reply { IfOk result (λ reply. (key : List ℕ) (met : List (List ℕ) →
+        MetSeen) (old new : Shown) → Pictured key met draft.now cache.now old new →
+        Judged (no_directory (met path.now)) (IsListing new key path.now after.now reply) reply) }
+    ensures short { IfErr result (λ e. (key : List ℕ) →
+        IsPathShort key every (IsListed key path.now after.now) draft.now cache.now e) }
 {
     match enter(draft, cache, path.names())? {
         Place::In { dir } => {

@@ -26,7 +26,8 @@ const ROOT: FileId = FileId(0);
 pub(crate) fn follow(draft: &Draft, cache: &Cache, names: &[Text]) -> Result<Found, Short>
     ensures follows { IfOk result (Follows draft.now cache.now names.now) }
     ensures there { IfOk result (AreInSight draft.now cache.now) }
-    ensures short { IfErr result (λ e. (key : List ℕ) → IsPathLack key every (IsOnTrail key names.now) draft.now cache.now e) }
+    ensures short { IfErr result (λ e. (key : List ℕ) →
+        IsPathLack key every (IsOnTrail key names.now) draft.now cache.now e) }
 {
     let mut at = ROOT;
     let mut above = ROOT;
@@ -50,10 +51,15 @@ pub(crate) fn follow(draft: &Draft, cache: &Cache, names: &[Text]) -> Result<Fou
 
 /// Goes from the root by the names of a path.
 pub fn resolve(draft: &Draft, cache: &Cache, path: &Path) -> Result<Found, Short>
-    ensures found { IfOk result (λ r. (key : List ℕ) (met : List (List ℕ) → MetSeen) (old new : Shown) → Pictured key met draft.now cache.now old new → Resolves new key path.now r) }
-    ensures met { IfOk result (λ r. (key : List ℕ) (met : List (List ℕ) → MetSeen) (old new : Shown) → Pictured key met draft.now cache.now old new → met path.now ≡ met_by new r) }
+    ensures found { IfOk result (λ r.
+        (key : List ℕ) (met : List (List ℕ) → MetSeen) (old new : Shown) →
+        Pictured key met draft.now cache.now old new → Resolves new key path.now r) }
+    ensures met { IfOk result (λ r.
+        (key : List ℕ) (met : List (List ℕ) → MetSeen) (old new : Shown) →
+        Pictured key met draft.now cache.now old new → met path.now ≡ met_by new r) }
     ensures there { IfOk result (AreInSight draft.now cache.now) }
-    ensures short { IfErr result (λ e. (key : List ℕ) → IsPathLack key every (IsOnTrail key path.now) draft.now cache.now e) }
+    ensures short { IfErr result (λ e. (key : List ℕ) →
+        IsPathLack key every (IsOnTrail key path.now) draft.now cache.now e) }
 {
     follow(draft, cache, path.names())
 }

@@ -98,7 +98,8 @@ fn place_of(entries: &[Entry], names: &[Text]) -> Option<usize>
 
 /// What stands at a path of the list.
 pub fn look_at<'a>(entries: &'a [Entry], names: &[Text]) -> Option<&'a Kind>
-    ensures { MatchOption result (kind_at entries.now names.now ≡ None) (λ kind. kind_at entries.now names.now ≡ Some kind.now) }
+    ensures { MatchOption result (kind_at entries.now names.now ≡ None) (λ kind.
+        kind_at entries.now names.now ≡ Some kind.now) }
 {
     match place_of(entries, names) {
         None => None,
@@ -135,7 +136,8 @@ pub fn seen_at(entries: &[Entry], names: &[Text]) -> Seen
 
 /// Puts something at a path, in place of what stands there.
 pub fn add(entries: &mut Vec<Entry>, path: Path, kind: Kind) -> Result<(), NoMemory>
-    ensures ok { OnOk result ((q : List (List ℕ)) → kind_at entries.new.items q ≡ set path kind (kind_at entries.old.items) q) }
+    ensures ok { OnOk result ((q : List (List ℕ)) →
+        kind_at entries.new.items q ≡ set path kind (kind_at entries.old.items) q) }
     ensures err { OnErr result (entries.new.items ≡ entries.old.items) }
 {
     entries.insert(0, Entry { path, kind })?;
@@ -144,7 +146,8 @@ pub fn add(entries: &mut Vec<Entry>, path: Path, kind: Kind) -> Result<(), NoMem
 
 /// Takes a path and all below it out.
 pub fn clear(entries: &mut Vec<Entry>, names: &[Text])
-    ensures { (q : List (List ℕ)) → kind_at entries.new.items q ≡ cleared names.now (kind_at entries.old.items) q }
+    ensures { (q : List (List ℕ)) →
+        kind_at entries.new.items q ≡ cleared names.now (kind_at entries.old.items) q }
 {
     entries.retain(|e| !is_under(names, e.path.names()));
 }
@@ -180,7 +183,9 @@ fn moved(
     olds: &[Text],
     news: &[Text],
 ) -> Result<Vec<Entry>, NoMemory>
-    ensures { IfOk result (λ v. (q : List (List ℕ)) → kind_at v.items q ≡ (if is_at_or_under news.now q then kind_at entries.now (olds.now ++ rest news.now q) else None)) }
+    ensures { IfOk result (λ v. (q : List (List ℕ)) →
+        kind_at v.items q ≡ (if is_at_or_under news.now q
+        then kind_at entries.now (olds.now ++ rest news.now q) else None)) }
 {
     let mut fresh = Vec::new(alloc);
     for entry in entries {
@@ -198,7 +203,8 @@ pub fn shift(
     olds: &[Text],
     news: &[Text],
 ) -> Result<(), NoMemory>
-    ensures ok { OnOk result ((q : List (List ℕ)) → kind_at entries.new.items q ≡ shifted olds.now news.now (kind_at entries.old.items) q) }
+    ensures ok { OnOk result ((q : List (List ℕ)) →
+        kind_at entries.new.items q ≡ shifted olds.now news.now (kind_at entries.old.items) q) }
     ensures err { OnErr result (entries.new.items ≡ entries.old.items) }
 {
     let mut fresh = moved(alloc, entries.as_slice(), olds, news)?;
@@ -211,7 +217,9 @@ pub fn shift(
 
 // The name of an entry that stands in the directory itself.
 fn child_name<'a>(entry: &'a Entry, names: &[Text]) -> Option<&'a Text>
-    ensures { MatchOption result ((n : List ℕ) → is_path entry.now.path (names.now ++ n ∷ []) ≡ false) (λ name. entry.now.path ≡ names.now ++ name.now ∷ []) }
+    ensures { MatchOption result ((n : List ℕ) →
+        is_path entry.now.path (names.now ++ n ∷ []) ≡ false) (λ name.
+        entry.now.path ≡ names.now ++ name.now ∷ []) }
 {
     let path = entry.path.names();
     if path.len() == names.len() + 1 && is_under(names, path) {
@@ -223,7 +231,9 @@ fn child_name<'a>(entry: &'a Entry, names: &[Text]) -> Option<&'a Text>
 
 /// The least name of a directory that is greater than another.
 pub fn next_name<'a>(entries: &'a [Entry], names: &[Text], after: &Text) -> Option<&'a Text>
-    ensures { MatchOption result (NoneLater (has_entry_named (kind_at entries.now) names.now) after.now) (λ name. IsNext (has_entry_named (kind_at entries.now) names.now) after.now name.now) }
+    ensures { MatchOption result
+        (NoneLater (has_entry_named (kind_at entries.now) names.now) after.now) (λ name.
+        IsNext (has_entry_named (kind_at entries.now) names.now) after.now name.now) }
 {
     let mut best: Option<&'a Text> = None;
     for entry in entries {
@@ -236,8 +246,10 @@ pub fn next_name<'a>(entries: &'a [Entry], names: &[Text], after: &Text) -> Opti
 
 /// The better of a name and the best so far: greater than `after`, and least of these.
 pub fn lesser<'a>(after: &Text, name: &'a Text, best: Option<&'a Text>) -> Option<&'a Text>
-    ensures { (there : List ℕ → Bool) → MatchOption best.entry (NoneLater there after.now) (λ b. IsNext there after.now b.now)
-        → MatchOption result (NoneLater (λ m. there m || bytes_eq m name.now) after.now) (λ b. IsNext (λ m. there m || bytes_eq m name.now) after.now b.now) }
+    ensures { (there : List ℕ → Bool) →
+        MatchOption best.entry (NoneLater there after.now) (λ b. IsNext there after.now b.now) →
+        MatchOption result (NoneLater (λ m. there m || bytes_eq m name.now) after.now) (λ b.
+        IsNext (λ m. there m || bytes_eq m name.now) after.now b.now) }
 {
     if !is_before(after, name) {
         return best;
@@ -255,7 +267,8 @@ pub fn page(
     names: &[Text],
     after: &Text,
 ) -> Result<Texts, NoMemory>
-    ensures { IfOk result (λ page. IsPage (has_entry_named (kind_at entries.now) names.now) 64 after.now page) }
+    ensures { IfOk result (λ page.
+        IsPage (has_entry_named (kind_at entries.now) names.now) 64 after.now page) }
 {
     let mut page = Texts::new(alloc);
     let mut last = after;
@@ -306,7 +319,8 @@ pub fn write_at(
     piece: &[u8],
 ) -> Result<(), NoMemory>
     requires { offset + length piece.now < 2 ^ 63 }
-    ensures ok { OnOk result ((q : List (List ℕ)) → kind_at entries.new.items q ≡ bytes_changed names.now (wrote offset piece.now) (kind_at entries.old.items) q) }
+    ensures ok { OnOk result ((q : List (List ℕ)) → kind_at entries.new.items q ≡
+        bytes_changed names.now (wrote offset piece.now) (kind_at entries.old.items) q) }
     ensures err { OnErr result (entries.new.items ≡ entries.old.items) }
 {
     match place_of(entries.as_slice(), names) {
@@ -323,7 +337,8 @@ pub fn resize_at(
     size: u64,
 ) -> Result<(), NoMemory>
     requires { size < 2 ^ 63 }
-    ensures ok { OnOk result ((q : List (List ℕ)) → kind_at entries.new.items q ≡ bytes_changed names.now (resized_bytes size) (kind_at entries.old.items) q) }
+    ensures ok { OnOk result ((q : List (List ℕ)) → kind_at entries.new.items q ≡
+        bytes_changed names.now (resized_bytes size) (kind_at entries.old.items) q) }
     ensures err { OnErr result (entries.new.items ≡ entries.old.items) }
 {
     match place_of(entries.as_slice(), names) {

@@ -86,7 +86,8 @@ impl Plain {
 
     // The checks of a new name at a path.
     fn new_at(&self, names: &[Text]) -> Option<PlainError>
-        ensures { result ≡ no_place (seen_at (kind_at self.now.entries)) (is_full self.now.age) names.now }
+        ensures { result ≡
+            no_place (seen_at (kind_at self.now.entries)) (is_full self.now.age) names.now }
     {
         let directory = seen_at(self.entries.as_slice(), above(names));
         let here = seen_at(self.entries.as_slice(), names);
@@ -109,9 +110,13 @@ impl Plain {
 
     // A new file or directory at the path of a text.
     fn make(&mut self, alloc: Global, path: &Text, kind: Kind) -> Result<Reply, NoMemory>
-        ensures reply { IfOk result (λ reply. Judged (on_names (names_of path.now) (no_place (seen_at (kind_at self.old.entries)) (is_full self.old.age))) (reply ≡ Done) reply) }
-        ensures step { OnOk result (state_of_list self.new ≡ (if is_none (on_names (names_of path.now) (no_place (seen_at (kind_at self.old.entries)) (is_full self.old.age)))
-            then by_names (state_of_list self.old) (names_of path.now) (λ names. aged (set names kind) (state_of_list self.old)) else state_of_list self.old)) }
+        ensures reply { IfOk result (λ reply.
+            Judged (on_names (names_of path.now) (no_place (seen_at (kind_at self.old.entries))
+            (is_full self.old.age))) (reply ≡ Done) reply) }
+        ensures step { OnOk result (state_of_list self.new ≡ (if is_none (on_names (names_of
+            path.now) (no_place (seen_at (kind_at self.old.entries)) (is_full self.old.age)))
+            then by_names (state_of_list self.old) (names_of path.now) (λ names.
+            aged (set names kind) (state_of_list self.old)) else state_of_list self.old)) }
         ensures err { OnErr result (self.new ≡ self.old) }
     {
         let Some(path) = read_path(alloc, path)? else {
@@ -133,9 +138,16 @@ impl Plain {
         offset: u64,
         bytes: &[u8],
     ) -> Result<Reply, NoMemory>
-        ensures reply { IfOk result (λ reply. Judged (on_names (names_of path.now) (λ names. write_checks (seen_at (kind_at self.old.entries) names) offset (length bytes.now) (is_full self.old.age))) (reply ≡ Done) reply) }
-        ensures step { OnOk result (state_of_list self.new ≡ (if is_none (on_names (names_of path.now) (λ names. write_checks (seen_at (kind_at self.old.entries) names) offset (length bytes.now) (is_full self.old.age)))
-            then by_names (state_of_list self.old) (names_of path.now) (λ names. if length bytes.now == 0 then state_of_list self.old else aged (bytes_changed names (wrote offset bytes.now)) (state_of_list self.old)) else state_of_list self.old)) }
+        ensures reply { IfOk result (λ reply. Judged (on_names (names_of path.now) (λ names.
+            write_checks (seen_at (kind_at self.old.entries) names) offset
+            (length bytes.now) (is_full self.old.age))) (reply ≡ Done) reply) }
+        ensures step { OnOk result (state_of_list self.new ≡
+            (if is_none (on_names (names_of path.now) (λ names. write_checks (seen_at
+            (kind_at self.old.entries) names) offset (length bytes.now) (is_full self.old.age)))
+            then by_names (state_of_list self.old) (names_of path.now) (λ names.
+            if length bytes.now == 0 then state_of_list self.old
+            else aged (bytes_changed names (wrote offset bytes.now)) (state_of_list self.old))
+            else state_of_list self.old)) }
         ensures err { OnErr result (self.new ≡ self.old) }
     {
         let Some(path) = read_path(alloc, path)? else {
@@ -155,8 +167,10 @@ impl Plain {
 
     // Bytes of the file at the path of a text.
     fn read(&self, alloc: Global, path: &Text, offset: u64, count: u64) -> Result<Reply, NoMemory>
-        ensures { IfOk result (λ reply. Judged (on_names (names_of path.now) (λ names. read_checks (seen_at (kind_at self.now.entries) names) count))
-            (OnNames (names_of path.now) (λ names. reply ≡ BytesAre (take count (drop offset (bytes_of (kind_at self.now.entries names)))))) reply) }
+        ensures { IfOk result (λ reply. Judged (on_names (names_of path.now) (λ names.
+            read_checks (seen_at (kind_at self.now.entries) names) count))
+            (OnNames (names_of path.now) (λ names. reply ≡ BytesAre (take count
+            (drop offset (bytes_of (kind_at self.now.entries names)))))) reply) }
     {
         let Some(path) = read_path(alloc, path)? else {
             return Ok(Reply::Plain(PlainError::BadPath));
@@ -172,9 +186,16 @@ impl Plain {
 
     // A new length of the file at the path of a text.
     fn resize(&mut self, alloc: Global, path: &Text, size: u64) -> Result<Reply, NoMemory>
-        ensures reply { IfOk result (λ reply. Judged (on_names (names_of path.now) (λ names. resize_checks (seen_at (kind_at self.old.entries) names) size (is_full self.old.age))) (reply ≡ Done) reply) }
-        ensures step { OnOk result (state_of_list self.new ≡ (if is_none (on_names (names_of path.now) (λ names. resize_checks (seen_at (kind_at self.old.entries) names) size (is_full self.old.age)))
-            then by_names (state_of_list self.old) (names_of path.now) (λ names. if size == size_of (seen_at (kind_at self.old.entries) names) then state_of_list self.old else aged (bytes_changed names (resized_bytes size)) (state_of_list self.old)) else state_of_list self.old)) }
+        ensures reply { IfOk result (λ reply. Judged (on_names (names_of path.now) (λ names.
+            resize_checks (seen_at (kind_at self.old.entries) names) size (is_full self.old.age)))
+            (reply ≡ Done) reply) }
+        ensures step { OnOk result (state_of_list self.new ≡
+            (if is_none (on_names (names_of path.now) (λ names.
+            resize_checks (seen_at (kind_at self.old.entries) names) size (is_full self.old.age)))
+            then by_names (state_of_list self.old) (names_of path.now) (λ names. if size ==
+            size_of (seen_at (kind_at self.old.entries) names) then state_of_list self.old
+            else aged (bytes_changed names (resized_bytes size)) (state_of_list self.old))
+            else state_of_list self.old)) }
         ensures err { OnErr result (self.new ≡ self.old) }
     {
         let Some(path) = read_path(alloc, path)? else {
@@ -194,8 +215,10 @@ impl Plain {
 
     // The kind and the length of what stands at the path of a text.
     fn stat(&self, alloc: Global, path: &Text) -> Result<Reply, NoMemory>
-        ensures { IfOk result (λ reply. Judged (on_names (names_of path.now) (λ names. unresolved (seen_at (kind_at self.now.entries) names)))
-            (OnNames (names_of path.now) (λ names. reply ≡ StatIs (is_directory_seen (seen_at (kind_at self.now.entries) names)) (size_of (seen_at (kind_at self.now.entries) names)))) reply) }
+        ensures { IfOk result (λ reply. Judged (on_names (names_of path.now) (λ names.
+            unresolved (seen_at (kind_at self.now.entries) names))) (OnNames (names_of path.now)
+            (λ names. reply ≡ StatIs (is_directory_seen (seen_at (kind_at self.now.entries) names))
+            (size_of (seen_at (kind_at self.now.entries) names)))) reply) }
     {
         let Some(path) = read_path(alloc, path)? else {
             return Ok(Reply::Plain(PlainError::BadPath));
@@ -212,8 +235,11 @@ impl Plain {
 
     // A page of the names of the directory at the path of a text.
     fn list(&self, alloc: Global, path: &Text, after: &Text) -> Result<Reply, NoMemory>
-        ensures { IfOk result (λ reply. Judged (on_names (names_of path.now) (λ names. then_error (unresolved (seen_at (kind_at self.now.entries) names)) (error_if (is_file (seen_at (kind_at self.now.entries) names)) NotDir)))
-            (OnNames (names_of path.now) (λ names. (page : List (List ℕ)) × ((reply ≡ Names page) × IsPage (has_entry_named (kind_at self.now.entries) names) 64 after.now page))) reply) }
+        ensures { IfOk result (λ reply. Judged (on_names (names_of path.now) (λ names.
+            then_error (unresolved (seen_at (kind_at self.now.entries) names))
+            (error_if (is_file (seen_at (kind_at self.now.entries) names)) NotDir)))
+            (OnNames (names_of path.now) (λ names. (page : List (List ℕ)) × ((reply ≡ Names page) ×
+            IsPage (has_entry_named (kind_at self.now.entries) names) 64 after.now page))) reply) }
     {
         let Some(path) = read_path(alloc, path)? else {
             return Ok(Reply::Plain(PlainError::BadPath));
@@ -227,9 +253,18 @@ impl Plain {
 
     // Replaces the path of one text by that of another.
     fn rename(&mut self, alloc: Global, from: &Text, to: &Text) -> Result<Reply, NoMemory>
-        ensures reply { IfOk result (λ reply. Judged (on_names (names_of from.now) (λ olds. on_names (names_of to.now) (λ news. move_checks (is_top olds) (seen_at (kind_at self.old.entries) olds) (is_front olds news) (no_place (seen_at (kind_at self.old.entries)) (is_full self.old.age) news)))) (reply ≡ Done) reply) }
-        ensures step { OnOk result (state_of_list self.new ≡ (if is_none (on_names (names_of from.now) (λ olds. on_names (names_of to.now) (λ news. move_checks (is_top olds) (seen_at (kind_at self.old.entries) olds) (is_front olds news) (no_place (seen_at (kind_at self.old.entries)) (is_full self.old.age) news))))
-            then by_names (state_of_list self.old) (names_of from.now) (λ olds. by_names (state_of_list self.old) (names_of to.now) (λ news. aged (shifted olds news) (state_of_list self.old))) else state_of_list self.old)) }
+        ensures reply { IfOk result (λ reply.
+            Judged (on_names (names_of from.now) (λ olds. on_names (names_of to.now) (λ news.
+            move_checks (is_top olds) (seen_at (kind_at self.old.entries) olds) (is_front olds news)
+            (no_place (seen_at (kind_at self.old.entries)) (is_full self.old.age) news))))
+            (reply ≡ Done) reply) }
+        ensures step { OnOk result (state_of_list self.new ≡
+            (if is_none (on_names (names_of from.now) (λ olds. on_names (names_of to.now) (λ news.
+            move_checks (is_top olds) (seen_at (kind_at self.old.entries) olds) (is_front olds news)
+            (no_place (seen_at (kind_at self.old.entries)) (is_full self.old.age) news))))
+            then by_names (state_of_list self.old) (names_of from.now) (λ olds.
+            by_names (state_of_list self.old) (names_of to.now) (λ news.
+            aged (shifted olds news) (state_of_list self.old))) else state_of_list self.old)) }
         ensures err { OnErr result (self.new ≡ self.old) }
     {
         let Some(from) = read_path(alloc, from)? else {
@@ -256,9 +291,14 @@ impl Plain {
 
     // Takes the path of a text and all below it out.
     fn remove(&mut self, alloc: Global, path: &Text) -> Result<Reply, NoMemory>
-        ensures reply { IfOk result (λ reply. Judged (on_names (names_of path.now) (λ names. remove_checks (is_top names) (seen_at (kind_at self.old.entries) names) (is_full self.old.age))) (reply ≡ Done) reply) }
-        ensures step { OnOk result (state_of_list self.new ≡ (if is_none (on_names (names_of path.now) (λ names. remove_checks (is_top names) (seen_at (kind_at self.old.entries) names) (is_full self.old.age)))
-            then by_names (state_of_list self.old) (names_of path.now) (λ names. aged (cleared names) (state_of_list self.old)) else state_of_list self.old)) }
+        ensures reply { IfOk result (λ reply. Judged (on_names (names_of path.now) (λ names.
+            remove_checks (is_top names) (seen_at (kind_at self.old.entries) names)
+            (is_full self.old.age))) (reply ≡ Done) reply) }
+        ensures step { OnOk result (state_of_list self.new ≡
+            (if is_none (on_names (names_of path.now) (λ names. remove_checks (is_top names)
+            (seen_at (kind_at self.old.entries) names) (is_full self.old.age)))
+            then by_names (state_of_list self.old) (names_of path.now) (λ names.
+            aged (cleared names) (state_of_list self.old)) else state_of_list self.old)) }
         ensures err { OnErr result (self.new ≡ self.old) }
     {
         let Some(path) = read_path(alloc, path)? else {
@@ -276,8 +316,10 @@ impl Plain {
     /// One request of the plain file system: the reply by its checks, and the next state. A plain error changes nothing.
     pub fn step(&mut self, alloc: Global, request: &Request) -> Result<Reply, NoMemory>
         requires { IsPlainRequest request.now }
-        ensures reply { IfOk result (λ reply. PlainReplies (state_of_list self.old) request.now reply) }
-        ensures step { OnOk result (state_of_list self.new ≡ plain_step (state_of_list self.old) request.now) }
+        ensures reply { IfOk result (λ reply.
+            PlainReplies (state_of_list self.old) request.now reply) }
+        ensures step { OnOk result (state_of_list self.new ≡
+            plain_step (state_of_list self.old) request.now) }
         ensures err { OnErr result (self.new ≡ self.old) }
     {
         match request {

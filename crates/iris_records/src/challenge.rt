@@ -58,7 +58,8 @@ fn meet_both(visible: &[Item], trash: &[Item], at: u64) -> Met
 pub fn probe(visible: &[Item], trash: &[Item], at: u64) -> Reply
     requires visible { IsForest visible.now }
     requires trash { IsForest trash.now }
-    ensures { (order : List ℕ) (next age : ℕ) → IsProbed (table_over visible.now trash.now next age) (slice_get (table_walk order (table_over visible.now trash.now next age)) at) result }
+    ensures { (order : List ℕ) (next age : ℕ) → IsProbed (table_over visible.now trash.now next age)
+        (slice_get (table_walk order (table_over visible.now trash.now next age)) at) result }
 {
     match meet_both(visible, trash, at) {
         Met::Block {

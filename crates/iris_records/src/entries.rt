@@ -44,7 +44,8 @@ pub(crate) fn blocks_behind(link: &Option<Link>) -> u64
 
 // How many blocks lie at an entry, inside it, and behind its links.
 fn blocks_at(told: &Told, left: &Option<Link>, right: &Option<Link>) -> Result<u64, NoMemory>
-    ensures { IfOk result (λ n. n ≡ link_blocks left.now + (told.now.blocks + link_blocks right.now)) }
+    ensures { IfOk result (λ n.
+        n ≡ link_blocks left.now + (told.now.blocks + link_blocks right.now)) }
 {
     let inside = told
         .blocks
@@ -65,7 +66,8 @@ fn entry_node(
     requires body { IsBody body }
     requires left { IsLinkToNamed left }
     requires right { IsLinkToNamed right }
-    ensures { IfOk result (λ e. e ≡ record { id = row.now.id; name = row.now.name; left = left; right = right; body = body }) }
+    ensures { IfOk result (λ e. e ≡
+        record { id = row.now.id; name = row.now.name; left = left; right = right; body = body }) }
 {
     let name = row.name.copy(alloc)?;
     let _text = name.as_str();
@@ -92,10 +94,14 @@ fn put_entry(
     requires left { IsLinkToNamed left }
     requires right { IsLinkToNamed right }
     ensures linked { IfOk result (λ l. IsLinkToNamed l) }
-    ensures link { IfOk result (λ l. (owns : List Own) (less more : Unfolded) → IsLevelOf owns level.now → left ≡ link_to less (node_of less) → right ≡ link_to more (node_of more)
-        → l ≡ link_to (placed_entry owns place less more) (node_of (placed_entry owns place less more))) }
-    ensures puts { OnOk result ((owns : List Own) (less more : Unfolded) (key : List ℕ) → IsLevelOf owns level.now → left ≡ link_to less (node_of less) → right ≡ link_to more (node_of more)
-        → Adds key (λ n. at_top n (placed_entry owns place less more)) shelf.old shelf.new) }
+    ensures link { IfOk result (λ l. (owns : List Own) (less more : Unfolded) →
+        IsLevelOf owns level.now →
+        left ≡ link_to less (node_of less) → right ≡ link_to more (node_of more) → l ≡
+        link_to (placed_entry owns place less more) (node_of (placed_entry owns place less more))) }
+    ensures puts { OnOk result ((owns : List Own) (less more : Unfolded) (key : List ℕ) →
+        IsLevelOf owns level.now →
+        left ≡ link_to less (node_of less) → right ≡ link_to more (node_of more) →
+        Adds key (λ n. at_top n (placed_entry owns place less more)) shelf.old shelf.new) }
 {
     let row = &level.rows[place as usize];
     let told = &level.told[place as usize];
@@ -119,8 +125,11 @@ fn link_of(
     requires level { IsLevel level.now }
     requires places { ArePlacesOf (length level.now.rows.items) (unmade_treap shape.now) }
     ensures linked { IfOk result (λ l. IsLinkToNamed l) }
-    ensures link { IfOk result (λ l. (owns : List Own) → IsLevelOf owns level.now → l ≡ link_to (placed owns (unmade_treap shape.now)) (node_of (placed owns (unmade_treap shape.now)))) }
-    ensures puts { OnOk result ((owns : List Own) (key : List ℕ) → IsLevelOf owns level.now → Adds key (λ n. in_directory n (placed owns (unmade_treap shape.now))) shelf.old shelf.new) }
+    ensures link { IfOk result (λ l. (owns : List Own) →
+        IsLevelOf owns level.now → l ≡ link_to (placed owns (unmade_treap shape.now))
+        (node_of (placed owns (unmade_treap shape.now)))) }
+    ensures puts { OnOk result ((owns : List Own) (key : List ℕ) → IsLevelOf owns level.now →
+        Adds key (λ n. in_directory n (placed owns (unmade_treap shape.now))) shelf.old shelf.new) }
 {
     match shape {
         Shape::Empty => Ok(None),
@@ -138,7 +147,8 @@ fn push_row(alloc: Global, level: &mut Level, item: &Item, told: Told) -> Result
     requires item { IsItem item.now }
     requires body { IsBody told.body }
     ensures level { OnOk result (IsLevel level.new) }
-    ensures row { OnOk result (level.new.rows.items ≡ level.old.rows.items ++ item_row item.now ∷ []) }
+    ensures row { OnOk result (level.new.rows.items ≡
+        level.old.rows.items ++ item_row item.now ∷ []) }
     ensures told { OnOk result (level.new.told.items ≡ level.old.told.items ++ told ∷ []) }
 {
     let name = item.name.copy(alloc)?;
@@ -153,7 +163,9 @@ fn level_of(alloc: Global, depth: usize, items: &[Item], told: &[Told]) -> Resul
     requires items { All IsItem items.now }
     requires bodies { All (λ t. IsBody t.body) told.now }
     ensures level { IfOk result (λ level. IsLevel level) }
-    ensures owns { IfOk result (λ level. (order : List ℕ) → told.now ≡ map told_of (all_owns order items.now) → IsLevelOf (owns order (grown depth items.now)) level) }
+    ensures owns { IfOk result (λ level. (order : List ℕ) →
+        told.now ≡ map told_of (all_owns order items.now) →
+        IsLevelOf (owns order (grown depth items.now)) level) }
 {
     let mut level = Level {
         rows: Vec::new(alloc),
@@ -185,8 +197,10 @@ pub(crate) fn put_directory(
     requires once { (i : ℕ) → times_given i (grown depth items.now) ≤ 1 }
     requires rising { IsRising (grown depth items.now) }
     ensures linked { IfOk result (λ l. IsLinkToNamed l) }
-    ensures link { IfOk result (λ l. l ≡ link_to (directory keys.now.order (grown depth items.now)) (node_of (directory keys.now.order (grown depth items.now)))) }
-    ensures puts { OnOk result ((key : List ℕ) → Adds key (λ n. in_directory n (directory keys.now.order (grown depth items.now))) shelf.old shelf.new) }
+    ensures link { IfOk result (λ l. l ≡ link_to (directory keys.now.order (grown depth items.now))
+        (node_of (directory keys.now.order (grown depth items.now)))) }
+    ensures puts { OnOk result ((key : List ℕ) → Adds key (λ n.
+        in_directory n (directory keys.now.order (grown depth items.now))) shelf.old shelf.new) }
 {
     let level = level_of(alloc, depth, items, told)?;
     let shape = treap(alloc, keys, level.rows.as_slice())?;

@@ -35,8 +35,11 @@ fn side_of(
     requires level { level ≤ most_level }
     requires index { index < 2 ^ (most_level - level) }
     requires halved { IsHalved level (unmade_fold folded.now) }
-    ensures side { IfOk result (λ s. s ≡ side_to (unfolded_side file.0 level index (unmade_fold folded.now)) (node_of (unfolded_side file.0 level index (unmade_fold folded.now)))) }
-    ensures puts { OnOk result ((key : List ℕ) → Adds key (λ n. in_parts n file.0 (unfolded_side file.0 level index (unmade_fold folded.now))) shelf.old shelf.new) }
+    ensures side { IfOk result (λ s.
+        s ≡ side_to (unfolded_side file.0 level index (unmade_fold folded.now))
+        (node_of (unfolded_side file.0 level index (unmade_fold folded.now)))) }
+    ensures puts { OnOk result ((key : List ℕ) → Adds key (λ n. in_parts n file.0
+        (unfolded_side file.0 level index (unmade_fold folded.now))) shelf.old shelf.new) }
 {
     match folded {
         Folded::One(version) => Ok(Side::Fold(*version)),
@@ -65,7 +68,8 @@ fn block_record(
     version: u64,
     page: &Page,
 ) -> Result<Bytes, NoMemory>
-    ensures { IfOk result (λ bytes. bytes ≡ record_of keys.now.block file.0 place version page.now) }
+    ensures { IfOk result (λ bytes.
+        bytes ≡ record_of keys.now.block file.0 place version page.now) }
 {
     let block = page.as_slice();
     let mut bytes = block.to_vec(alloc)?;
@@ -83,7 +87,8 @@ fn put_block(
     kept: &Place,
 ) -> Result<(), NoMemory>
     requires { IsPlace (Some kept.now) }
-    ensures { OnOk result (Adds keys.now.block (λ n. at_place n file.0 place kept.now) shelf.old shelf.new) }
+    ensures { OnOk result (Adds keys.now.block (λ n.
+        at_place n file.0 place kept.now) shelf.old shelf.new) }
 {
     if let Some(page) = &kept.page {
         let bytes = block_record(alloc, keys, file, place, kept.version, page)?;
@@ -100,7 +105,8 @@ pub(crate) fn put_blocks(
     file: FileId,
     row: &FileRow,
 ) -> Result<(), NoMemory>
-    ensures { OnOk result (Adds keys.now.block (λ n. in_blocks n file.0 (file_of row.now)) shelf.old shelf.new) }
+    ensures { OnOk result (Adds keys.now.block (λ n.
+        in_blocks n file.0 (file_of row.now)) shelf.old shelf.new) }
 {
     let places = row.places();
     for (i, kept) in places.iter().enumerate() {
@@ -122,7 +128,8 @@ fn version_at(places: &[Place], place: usize) -> u64
 // The versions of all places of a file.
 fn versions_of(alloc: Global, row: &FileRow) -> Result<Vec<u64>, NoMemory>
     ensures len { IfOk result (λ versions. length versions.items ≡ 65536) }
-    ensures each { IfOk result (λ versions. (p : ℕ) → p < 65536 → slice_index versions.items p ≡ version_at row.now.places p) }
+    ensures each { IfOk result (λ versions. (p : ℕ) →
+        p < 65536 → slice_index versions.items p ≡ version_at row.now.places p) }
 {
     let mut versions = Vec::new(alloc);
     for place in 0..PLACES {
@@ -139,8 +146,10 @@ pub(crate) fn put_parts(
     row: &FileRow,
 ) -> Result<Side, NoMemory>
     requires { 2 ≤ file.0 }
-    ensures side { IfOk result (λ s. s ≡ side_to (versions file.0 (file_of row.now)) (node_of (versions file.0 (file_of row.now)))) }
-    ensures puts { OnOk result ((key : List ℕ) → Adds key (λ n. in_parts n file.0 (versions file.0 (file_of row.now))) shelf.old shelf.new) }
+    ensures side { IfOk result (λ s. s ≡
+        side_to (versions file.0 (file_of row.now)) (node_of (versions file.0 (file_of row.now)))) }
+    ensures puts { OnOk result ((key : List ℕ) →
+        Adds key (λ n. in_parts n file.0 (versions file.0 (file_of row.now))) shelf.old shelf.new) }
 {
     let versions = versions_of(alloc, row)?;
     let folded = fold(alloc, versions.as_slice())?;

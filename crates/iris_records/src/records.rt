@@ -36,7 +36,8 @@ fn put_file(
     requires { 2 ≤ file.0 }
     ensures told { IfOk result (λ t. t ≡ file_told file.0 (file_of row.now)) }
     ensures body { IfOk result (λ t. IsBody t.body) }
-    ensures puts { OnOk result (Adds keys.now.block (λ n. in_file n file.0 (file_of row.now)) shelf.old shelf.new) }
+    ensures puts { OnOk result (Adds keys.now.block (λ n.
+        in_file n file.0 (file_of row.now)) shelf.old shelf.new) }
 {
     put_blocks(alloc, keys, shelf, file, row)?;
     let versions = put_parts(alloc, shelf, file, row)?;
@@ -74,7 +75,8 @@ fn put_item(
     requires bodies { All (λ t. IsBody t.body) told.now }
     ensures told { IfOk result (λ t. t ≡ told_of (own_of keys.now.order item.now after.now)) }
     ensures body { IfOk result (λ t. IsBody t.body) }
-    ensures puts { OnOk result (Adds keys.now.block (λ n. inside_item keys.now.order n item.now item.now.file after.now) shelf.old shelf.new) }
+    ensures puts { OnOk result (Adds keys.now.block (λ n.
+        inside_item keys.now.order n item.now item.now.file after.now) shelf.old shelf.new) }
 {
     if let Some(file) = &item.file {
         return put_file(alloc, keys, shelf, item.id, file);
@@ -97,7 +99,8 @@ fn put_items(
     requires { AreFit items.now }
     ensures told { IfOk result (λ ts. ts.items ≡ map told_of (all_owns keys.now.order items.now)) }
     ensures bodies { IfOk result (λ ts. All (λ t. IsBody t.body) ts.items) }
-    ensures puts { OnOk result (Adds keys.now.block (λ n. inside_items keys.now.order n items.now) shelf.old shelf.new) }
+    ensures puts { OnOk result (Adds keys.now.block (λ n.
+        inside_items keys.now.order n items.now) shelf.old shelf.new) }
 {
     let mut told = Vec::new(alloc);
     let mut i = items.len();
@@ -125,8 +128,10 @@ fn put_rows(
 ) -> Result<Option<Link>, NoMemory>
     requires { AreStored items.now }
     ensures linked { IfOk result (λ l. IsLinkToNamed l) }
-    ensures link { IfOk result (λ l. l ≡ link_to (directory keys.now.order (grown 0 items.now)) (node_of (directory keys.now.order (grown 0 items.now)))) }
-    ensures puts { OnOk result (Adds keys.now.block (λ n. among_items keys.now.order n items.now) shelf.old shelf.new) }
+    ensures link { IfOk result (λ l. l ≡ link_to (directory keys.now.order (grown 0 items.now))
+        (node_of (directory keys.now.order (grown 0 items.now)))) }
+    ensures puts { OnOk result (Adds keys.now.block (λ n.
+        among_items keys.now.order n items.now) shelf.old shelf.new) }
 {
     let told = put_items(alloc, keys, shelf, items)?;
     put_directory(alloc, keys, shelf, 0, items, told.as_slice())
@@ -141,8 +146,11 @@ fn put_root(
 ) -> Result<Hash32, NoMemory>
     requires root { id.0 < 2 }
     requires top { IsLinkToNamed top }
-    ensures hash { IfOk result (λ h. (inside : Unfolded) → top ≡ link_to inside (node_of inside) → h.0 ≡ sha256 (node_record (Folder id.0 [] Absent Absent inside))) }
-    ensures puts { OnOk result ((inside : Unfolded) (key : List ℕ) → top ≡ link_to inside (node_of inside) → Adds key (λ n. in_directory n (Folder id.0 [] Absent Absent inside)) shelf.old shelf.new) }
+    ensures hash { IfOk result (λ h. (inside : Unfolded) → top ≡ link_to inside (node_of inside) →
+        h.0 ≡ sha256 (node_record (Folder id.0 [] Absent Absent inside))) }
+    ensures puts { OnOk result ((inside : Unfolded) (key : List ℕ) →
+        top ≡ link_to inside (node_of inside) →
+        Adds key (λ n. in_directory n (Folder id.0 [] Absent Absent inside)) shelf.old shelf.new) }
 {
     let entry = EntryNode {
         id,
@@ -163,7 +171,8 @@ struct Roots {
 
 // The hash of both roots' hashes and the next id.
 fn joined_hash(roots: &Roots, next: u64) -> Hash32
-    ensures { result.0 ≡ sha256 (roots.now.visible.0 ++ (roots.now.trash.0 ++ to_be_bytes w64 next)) }
+    ensures { result.0 ≡
+        sha256 (roots.now.visible.0 ++ (roots.now.trash.0 ++ to_be_bytes w64 next)) }
 {
     let mut hasher = Sha256::new();
     hasher.update(roots.visible.0);
@@ -182,9 +191,12 @@ fn put_roots(
 ) -> Result<Roots, NoMemory>
     requires visible { AreStored visible.now }
     requires trash { AreStored trash.now }
-    ensures visible { IfOk result (λ roots. roots.visible.0 ≡ sha256 (node_record (root_of_items keys.now.order 0 visible.now))) }
-    ensures trash { IfOk result (λ roots. roots.trash.0 ≡ sha256 (node_record (root_of_items keys.now.order 1 trash.now))) }
-    ensures puts { OnOk result (Adds keys.now.block (λ n. shown_items keys.now.order n visible.now trash.now) shelf.old shelf.new) }
+    ensures visible { IfOk result (λ roots.
+        roots.visible.0 ≡ sha256 (node_record (root_of_items keys.now.order 0 visible.now))) }
+    ensures trash { IfOk result (λ roots.
+        roots.trash.0 ≡ sha256 (node_record (root_of_items keys.now.order 1 trash.now))) }
+    ensures puts { OnOk result (Adds keys.now.block (λ n.
+        shown_items keys.now.order n visible.now trash.now) shelf.old shelf.new) }
 {
     let trash = put_rows(alloc, keys, shelf, trash)?;
     let visible = put_rows(alloc, keys, shelf, visible)?;
@@ -202,8 +214,10 @@ pub fn records_of(
 ) -> Result<Vec<(Name, Bytes)>, NoMemory>
     requires visible { IsForest visible.now }
     requires trash { IsForest trash.now }
-    requires sound { (next : ℕ) × ((age : ℕ) × IsSound (table_over visible.now trash.now next age)) }
-    ensures { IfOk result (λ records. (next age : ℕ) → AreLive keys.now (table_over visible.now trash.now next age) records.items) }
+    requires sound { (next : ℕ) ×
+        ((age : ℕ) × IsSound (table_over visible.now trash.now next age)) }
+    ensures { IfOk result (λ records. (next age : ℕ) →
+        AreLive keys.now (table_over visible.now trash.now next age) records.items) }
 {
     let mut shelf = Shelf::new(alloc);
     put_roots(alloc, keys, &mut shelf, visible, trash)?;
@@ -221,7 +235,8 @@ pub fn root_of(
     requires visible { IsForest visible.now }
     requires trash { IsForest trash.now }
     requires sound { (age : ℕ) × IsSound (table_over visible.now trash.now next age) }
-    ensures { IfOk result (λ h. (age : ℕ) → h.0 ≡ root_hash keys.now.order (table_over visible.now trash.now next age)) }
+    ensures { IfOk result (λ h. (age : ℕ) →
+        h.0 ≡ root_hash keys.now.order (table_over visible.now trash.now next age)) }
 {
     let mut shelf = Shelf::new(alloc);
     let roots = put_roots(alloc, keys, &mut shelf, visible, trash)?;

@@ -68,7 +68,8 @@ impl Shelf {
 
     /// Puts a record in under its name, in place of one that stands there.
     pub(crate) fn put(&mut self, name: Name, bytes: Bytes) -> Result<(), NoMemory>
-        ensures { OnOk result ((n : Name) → looked n self.new ≡ (if same_name n name then Some bytes else looked n self.old)) }
+        ensures { OnOk result ((n : Name) →
+            looked n self.new ≡ (if same_name n name then Some bytes else looked n self.old)) }
     {
         let at = count_before(self.records.as_slice(), &name);
         if is_at(self.records.as_slice(), at, &name) {
@@ -91,7 +92,8 @@ impl Shelf {
 // Puts the record of a node, and answers its hash.
 pub(crate) fn put_node(alloc: Global, shelf: &mut Shelf, node: &Node) -> Result<Hash32, NoMemory>
     ensures hash { IfOk result (λ h. h ≡ hash node.now) }
-    ensures puts { OnOk result ((n : Name) → looked n shelf.new ≡ (if same_name n (name_of node.now) then Some (spelling node.now) else looked n shelf.old)) }
+    ensures puts { OnOk result ((n : Name) → looked n shelf.new ≡ (if same_name n (name_of node.now)
+        then Some (spelling node.now) else looked n shelf.old)) }
 {
     let record = encode(alloc, node)?;
     let hash = hash_of(record.as_slice());

@@ -29,7 +29,8 @@ impl Model for FileRow {
 
     ghost view = { λ f. record { size = f.size; counter = f.counter; places = f.places.items } };
 
-    ghost invariant = { λ f. ArePlacesKept (record { size = f.size; counter = f.counter; places = f.places.items }) };
+    ghost invariant = { λ f.
+        ArePlacesKept (record { size = f.size; counter = f.counter; places = f.places.items }) };
 }
 
 impl FileRow {
@@ -72,7 +73,8 @@ impl FileRow {
         requires some { 0 < length bytes.now }
         requires room { offset + length bytes.now ≤ 268435456 }
         requires counter { self.old.counter < 2 ^ 63 }
-        ensures ok { OnOk result (file_of self.new ≡ file_written offset bytes.now (file_of self.old)) }
+        ensures ok { OnOk result (file_of self.new ≡
+            file_written offset bytes.now (file_of self.old)) }
         ensures err { OnErr result (self.new ≡ self.old) }
     {
         let size = self.size;
@@ -107,14 +109,16 @@ impl FileRow {
 
     /// Whether each place is a hole.
     pub fn is_free(&self) -> bool
-        ensures { result ≡ (count_written (file_of self.now).version (blocks_of self.now.size) == 0) }
+        ensures { result ≡
+            (count_written (file_of self.now).version (blocks_of self.now.size) == 0) }
     {
         are_holes(self.places.as_slice())
     }
 
     /// The bytes from an offset, so many or to the end.
     pub fn read(&self, alloc: Global, offset: u64, count: u64) -> Result<Bytes, NoMemory>
-        ensures { IfOk result (λ bytes. bytes ≡ take count (drop offset (content (file_of self.now)))) }
+        ensures { IfOk result (λ bytes.
+            bytes ≡ take count (drop offset (content (file_of self.now)))) }
     {
         if offset >= self.size {
             return Ok(Bytes::of(Vec::new(alloc)));

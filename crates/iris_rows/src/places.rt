@@ -35,7 +35,8 @@ fn hole() -> Place
 
 // The page of a place, none where it is a hole.
 fn page_at(places: &[Place], place: usize) -> Option<&Page>
-    ensures { MatchOption result (block_at places.now place ≡ zeros) (λ page. block_at places.now place ≡ page.now) }
+    ensures { MatchOption result (block_at places.now place ≡ zeros) (λ page.
+        block_at places.now place ≡ page.now) }
 {
     if place >= places.len() {
         return None;
@@ -76,7 +77,8 @@ fn merged_page(
     requires before { offset < place * 4096 + 4096 }
     requires after { place * 4096 < offset + length bytes.now }
     requires bound { offset + length bytes.now ≤ 268435456 }
-    ensures { IfOk result (λ page. page ≡ merged offset bytes.now place (block_at places.now place)) }
+    ensures { IfOk result (λ page.
+        page ≡ merged offset bytes.now place (block_at places.now place)) }
 {
     let mut block = block(places, place);
     let begin = place * PAGE_LEN;
@@ -96,8 +98,11 @@ fn merged_pages(
 ) -> Result<Vec<Page>, NoMemory>
     requires some { 0 < length bytes.now }
     requires bound { offset + length bytes.now ≤ 268435456 }
-    ensures len { IfOk result (λ pages. length pages.items ≡ (offset + length bytes.now - 1) / 4096 + 1 - offset / 4096) }
-    ensures pages { IfOk result (λ pages. (k : ℕ) → k < length pages.items → slice_get pages.items k ≡ Some (merged offset bytes.now (offset / 4096 + k) (block_at places.now (offset / 4096 + k)))) }
+    ensures len { IfOk result (λ pages.
+        length pages.items ≡ (offset + length bytes.now - 1) / 4096 + 1 - offset / 4096) }
+    ensures pages { IfOk result (λ pages. (k : ℕ) →
+        k < length pages.items → slice_get pages.items k ≡ Some (merged offset bytes.now (offset /
+        4096 + k) (block_at places.now (offset / 4096 + k)))) }
 {
     let first = offset / PAGE_LEN;
     let end = (offset + bytes.len() - 1) / PAGE_LEN + 1;
@@ -121,7 +126,8 @@ fn holes(alloc: Global, count: usize) -> Result<Vec<Place>, NoMemory>
 
 // Holes up to a number of places.
 fn extend(alloc: Global, places: &mut Vec<Place>, count: usize) -> Result<(), NoMemory>
-    ensures ok { OnOk result (places.new.items ≡ places.old.items ++ replicate (count - length places.old.items) hole) }
+    ensures ok { OnOk result (places.new.items ≡
+        places.old.items ++ replicate (count - length places.old.items) hole) }
     ensures err { OnErr result (places.new.items ≡ places.old.items) }
 {
     let mut more = holes(alloc, count.saturating_sub(places.len()))?;
@@ -154,10 +160,23 @@ pub(crate) fn write_over(
     requires some { 0 < length bytes.now }
     requires room { offset + length bytes.now ≤ 268435456 }
     requires counter { counter < 2 ^ 63 }
-    requires kept { ArePlacesKept (record { size = size; counter = counter; places = places.old.items }) }
-    ensures ok { OnOk result (file_of (record { size = if nat_lt size (offset + length bytes.now) then offset + length bytes.now else size; counter = counter + 1; places = places.new.items })
-        ≡ file_written offset bytes.now (file_of (record { size = size; counter = counter; places = places.old.items }))) }
-    ensures kept { OnOk result (ArePlacesKept (record { size = if nat_lt size (offset + length bytes.now) then offset + length bytes.now else size; counter = counter + 1; places = places.new.items })) }
+    requires kept { ArePlacesKept
+        (record { size = size; counter = counter; places = places.old.items }) }
+    ensures ok { OnOk result (file_of (record {
+      size = if nat_lt size (offset + length bytes.now)
+          then offset + length bytes.now else size;
+      counter = counter +
+          1;
+      places = places.new.items;
+    }) ≡ file_written offset bytes.now
+        (file_of (record { size = size; counter = counter; places = places.old.items }))) }
+    ensures kept { OnOk result (ArePlacesKept (record {
+      size = if nat_lt size (offset +
+          length bytes.now) then offset + length bytes.now
+          else size;
+      counter = counter + 1;
+      places = places.new.items;
+    })) }
     ensures err { OnErr result (places.new.items ≡ places.old.items) }
 {
     let end = offset + bytes.len() as u64;
@@ -211,9 +230,17 @@ pub(crate) fn refit(
 ) -> Result<(), NoMemory>
     requires room { size ≤ 268435456 }
     requires counter { counter < 2 ^ 63 }
-    requires kept { ArePlacesKept (record { size = old; counter = counter; places = places.old.items }) }
-    ensures ok { OnOk result (file_of (record { size = size; counter = counter + 1; places = places.new.items }) ≡ cut size (file_of (record { size = old; counter = counter; places = places.old.items }))) }
-    ensures kept { OnOk result (ArePlacesKept (record { size = size; counter = counter + 1; places = places.new.items })) }
+    requires kept { ArePlacesKept
+        (record { size = old; counter = counter; places = places.old.items }) }
+    ensures ok { OnOk result
+        (file_of (record { size = size; counter = counter + 1; places = places.new.items }) ≡
+        cut size (file_of (record { size = old; counter = counter; places = places.old.items }))) }
+    ensures kept { OnOk result (ArePlacesKept (record {
+      size = size;
+      counter = counter +
+          1;
+      places = places.new.items;
+    })) }
     ensures err { OnErr result (places.new.items ≡ places.old.items) }
 {
     let blocks = blocks_of(size) as usize;
@@ -229,8 +256,12 @@ pub(crate) fn refit(
 // Makes the first places that are no holes holes.
 pub(crate) fn free(places: &mut [Place])
     requires { ArePlaces places.old }
-    ensures versions { (p : ℕ) → version_at places.new p ≡ (if nat_lt (count_written (version_at places.old) p) 16 then 0 else version_at places.old p) }
-    ensures blocks { (p : ℕ) → block_at places.new p ≡ (if nat_lt (count_written (version_at places.old) p) 16 then zeros else block_at places.old p) }
+    ensures versions { (p : ℕ) →
+        version_at places.new p ≡ (if nat_lt (count_written (version_at places.old) p) 16
+        then 0 else version_at places.old p) }
+    ensures blocks { (p : ℕ) →
+        block_at places.new p ≡ (if nat_lt (count_written (version_at places.old) p) 16
+        then zeros else block_at places.old p) }
     ensures places { ArePlaces places.new }
 {
     let mut freed = 0;

@@ -31,7 +31,8 @@ fn first_byte(word: &[u8]) -> Option<(u8, &[u8])>
 
 fn unescape(alloc: Global, word: &[u8]) -> Result<Option<Vec<u8>>, NoMemory>
     ensures some { IfOk result (λ read. IfSome read (λ bytes. Unescapes word.now bytes.items)) }
-    ensures none { IfOk result (λ read. IfNone read ((bytes : List ℕ) → Unescapes word.now bytes → ⊥)) }
+    ensures none { IfOk result (λ read.
+        IfNone read ((bytes : List ℕ) → Unescapes word.now bytes → ⊥)) }
 {
     let mut bytes = Vec::new(alloc);
     let mut rest = word;
@@ -49,7 +50,8 @@ fn unescape(alloc: Global, word: &[u8]) -> Result<Option<Vec<u8>>, NoMemory>
 /// is a path is not asked.
 pub fn read_path(alloc: Global, word: &[u8]) -> Result<Option<Text>, NoMemory>
     ensures some { IfOk result (λ read. IfSome read (λ path. IsPathWord word.now path)) }
-    ensures none { IfOk result (λ read. IfNone read ((path : List ℕ) → IsPathWord word.now path → ⊥)) }
+    ensures none { IfOk result (λ read.
+        IfNone read ((path : List ℕ) → IsPathWord word.now path → ⊥)) }
 {
     let Some(bytes) = unescape(alloc, word)? else {
         return Ok(None);

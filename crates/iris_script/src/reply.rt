@@ -134,7 +134,8 @@ fn push_reply(text: &mut Vec<u8>, reply: &Reply) -> Result<(), NoMemory>
 }
 
 fn push_line(text: &mut Vec<u8>, client: u32, number: u64, reply: &Reply) -> Result<(), NoMemory>
-    ensures ok { OnOk result (text.new.items ≡ text.old.items ++ reply_line client number reply.now) }
+    ensures ok { OnOk result (text.new.items ≡
+        text.old.items ++ reply_line client number reply.now) }
     ensures grows { Grows text.old.items text.new.items }
 {
     push_number(text, u64::from(client))?;
@@ -151,7 +152,8 @@ pub fn append_reply(
     number: u64,
     reply: &Reply,
 ) -> Result<(), NoMemory>
-    ensures ok { OnOk result (text.new.items ≡ text.old.items ++ reply_line client number reply.now) }
+    ensures ok { OnOk result (text.new.items ≡
+        text.old.items ++ reply_line client number reply.now) }
     ensures err { OnErr result (text.new.items ≡ text.old.items) }
 {
     let before = text.len();

@@ -26,7 +26,8 @@ fn is_even(versions: &[u64]) -> bool
 /// many levels as the length halves.
 pub fn fold(alloc: Global, versions: &[u64]) -> Result<Folded, NoMemory>
     requires { IsPower (length versions.now) }
-    ensures { (level : ℕ) → length versions.now ≡ 2 ^ level → IfOk result (λ f. f ≡ made_fold (folded (λ p. slice_index versions.now p) level 0)) }
+    ensures { (level : ℕ) → length versions.now ≡ 2 ^ level →
+        IfOk result (λ f. f ≡ made_fold (folded (λ p. slice_index versions.now p) level 0)) }
 {
     if is_even(versions) {
         return Ok(Folded::One(versions[0]));

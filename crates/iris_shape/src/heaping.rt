@@ -32,7 +32,8 @@ struct Half {
 
 // A row with its lesser side.
 fn closed(alloc: Global, half: Half, less: Shape) -> Result<Shape, NoMemory>
-    ensures { IfOk result (λ s. (a : ℕ × Treap ℕ) (t : Treap ℕ) → half ≡ made_half a → less ≡ made_treap t → s ≡ made_treap (Over a.0 t a.1)) }
+    ensures { IfOk result (λ s. (a : ℕ × Treap ℕ) (t : Treap ℕ) →
+        half ≡ made_half a → less ≡ made_treap t → s ≡ made_treap (Over a.0 t a.1)) }
 {
     let less = Boxed::new(alloc, less)?;
     let more = Boxed::new(alloc, half.more)?;
@@ -51,7 +52,8 @@ fn close_below(
     opened: &mut Vec<Half>,
     place: u32,
 ) -> Result<Shape, NoMemory>
-    ensures { IfOk result (λ below. (s : List (ℕ × Treap ℕ)) → opened.old.items ≡ map made_half s → Closes (has_priority_over keys.now.order rows.now) place s opened.new.items below) }
+    ensures { IfOk result (λ below. (s : List (ℕ × Treap ℕ)) → opened.old.items ≡ map made_half s →
+        Closes (has_priority_over keys.now.order rows.now) place s opened.new.items below) }
 {
     let mut below = Shape::Empty;
     while let Some(half) = opened.pop() {
@@ -72,8 +74,10 @@ fn open_row(
     opened: &mut Vec<Half>,
     place: u32,
 ) -> Result<(), NoMemory>
-    ensures { OnOk result ((s : List (ℕ × Treap ℕ)) → opened.old.items ≡ map made_half s → IsHeap (has_priority_over keys.now.order rows.now) (spine s)
-        → (t : List (ℕ × Treap ℕ)) × (opened.new.items ≡ map made_half t) × (spine t ≡ with_first (has_priority_over keys.now.order rows.now) place (spine s))) }
+    ensures { OnOk result ((s : List (ℕ × Treap ℕ)) → opened.old.items ≡ map made_half s →
+        IsHeap (has_priority_over keys.now.order rows.now) (spine s) →
+        (t : List (ℕ × Treap ℕ)) × (opened.new.items ≡ map made_half t) ×
+        (spine t ≡ with_first (has_priority_over keys.now.order rows.now) place (spine s))) }
 {
     let more = close_below(alloc, keys, rows, opened, place)?;
     opened.push(Half { row: place, more })?;
@@ -82,7 +86,8 @@ fn open_row(
 
 // Closes all open rows.
 fn close_all(alloc: Global, mut opened: Vec<Half>) -> Result<Shape, NoMemory>
-    ensures { IfOk result (λ shape. (s : List (ℕ × Treap ℕ)) → opened.items ≡ map made_half s → shape ≡ made_treap (spine s)) }
+    ensures { IfOk result (λ shape. (s : List (ℕ × Treap ℕ)) →
+        opened.items ≡ map made_half s → shape ≡ made_treap (spine s)) }
 {
     let mut shape = Shape::Empty;
     while let Some(half) = opened.pop() {

@@ -67,8 +67,10 @@ pub(crate) fn stands_above(keys: &Keys, rows: &[Row], first: u32, second: u32) -
 // How many rows of the order stand before a row.
 fn count_before(rows: &[Row], order: &[u32], place: u32) -> usize
     ensures within { result ≤ length order.now }
-    ensures before { keep (λ j. less_name (name_at rows.now j) (name_at rows.now place)) order.now ≡ take result order.now }
-    ensures after { skip (λ j. less_name (name_at rows.now j) (name_at rows.now place)) order.now ≡ drop result order.now }
+    ensures before { keep (λ j.
+        less_name (name_at rows.now j) (name_at rows.now place)) order.now ≡ take result order.now }
+    ensures after { skip (λ j.
+        less_name (name_at rows.now j) (name_at rows.now place)) order.now ≡ drop result order.now }
 {
     for (i, other) in order.iter().enumerate() {
         if !stands_before(rows, *other, place) {
@@ -80,7 +82,8 @@ fn count_before(rows: &[Row], order: &[u32], place: u32) -> usize
 
 // Puts a row into the order.
 fn put_row(rows: &[Row], order: &mut Vec<u32>, place: u32) -> Result<(), NoMemory>
-    ensures { OnOk result (order.new.items ≡ rows_with (λ j. less_name (name_at rows.now j) (name_at rows.now place)) place order.old.items) }
+    ensures { OnOk result (order.new.items ≡ rows_with (λ j.
+        less_name (name_at rows.now j) (name_at rows.now place)) place order.old.items) }
 {
     let at = count_before(rows, order.as_slice(), place);
     order.insert(at, place)?;

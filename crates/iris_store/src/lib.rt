@@ -85,7 +85,8 @@ pub trait Store {
 
     /// Stores a record. After `NoMemory` it isn't said whether the store took it.
     fn put(&mut self, alloc: Global, name: &Name, bytes: &[u8]) -> Result<(), StoreError>
-        ensures traffic { traffic self.new ≡ after_put (traffic self.old) name.now bytes.now result }
+        ensures traffic { traffic self.new ≡
+            after_put (traffic self.old) name.now bytes.now result }
         ensures cause { IsCaused (faults self.old) (faults self.new) result };
 
     /// Takes the record under a name away. That none is there is no failure.

@@ -28,7 +28,12 @@ impl Model for MemStore {
 
     ghost Value = { Shelf };
 
-    ghost view = { λ a. record { records = a.records.entries; failing = a.failing.items; calls = a.calls; faults = a.faults } };
+    ghost view = { λ a. record {
+      records = a.records.entries;
+      failing = a.failing.items;
+      calls = a.calls;
+      faults = a.faults;
+    } };
 }
 
 impl MemStore {
@@ -88,7 +93,8 @@ impl Store for MemStore {
         ensures traffic { None ≡ after_get None name.now result }
         ensures cause { IsCaused self.old.faults self.new.faults result }
         ensures short { IsWithinLimit result }
-        ensures answer { StoreAnswers (fails_next self.old) (option_map (take ANSWER_LEN) (stored_record self.old name.now)) result }
+        ensures answer { StoreAnswers (fails_next self.old)
+            (option_map (take ANSWER_LEN) (stored_record self.old name.now)) result }
         ensures counts { Counts self.old self.new }
         ensures records { self.new.records ≡ self.old.records }
     {
@@ -107,7 +113,8 @@ impl Store for MemStore {
         ensures cause { IsCaused self.old.faults self.new.faults result }
         ensures answer { StoreAnswers (fails_next self.old) tt result }
         ensures counts { Counts self.old self.new }
-        ensures stored { (q : SpecName) → stored_record self.new q ≡ (if is_ok result && same_name name.now q then Some bytes.now else stored_record self.old q) }
+        ensures stored { (q : SpecName) → stored_record self.new q ≡ (if is_ok result &&
+            same_name name.now q then Some bytes.now else stored_record self.old q) }
     {
         if self.fails() {
             return Err(StoreError::Failed);
@@ -122,7 +129,8 @@ impl Store for MemStore {
         ensures cause { IsCaused self.old.faults self.new.faults result }
         ensures answer { StoreAnswers (fails_next self.old) tt result }
         ensures counts { Counts self.old self.new }
-        ensures stored { (q : SpecName) → stored_record self.new q ≡ (if is_ok result && same_name name.now q then None else stored_record self.old q) }
+        ensures stored { (q : SpecName) → stored_record self.new q ≡
+            (if is_ok result && same_name name.now q then None else stored_record self.old q) }
     {
         if self.fails() {
             return Err(StoreError::Failed);

@@ -143,10 +143,12 @@ impl<S: Store> ScriptStore<S> {
     // What the due act answers to a get, if one is due. A failure is counted.
     fn answer(&mut self, alloc: Global, name: &Name) -> Option<Result<Option<Bytes>, StoreError>>
         ensures none { IfNone result (due_act Kind.Get name.now self.old.deeds ≡ None) }
-        ensures some { IfSome result (λ answer. IsSomeAnd (due_act Kind.Get name.now self.old.deeds) (λ act. IsDone act answer)) }
+        ensures some { IfSome result (λ answer.
+            IsSomeAnd (due_act Kind.Get name.now self.old.deeds) (λ act. IsDone act answer)) }
         ensures short { IfSome result IsWithinLimit }
         ensures cause { IfSome result (IsCaused self.old.faults self.new.faults) }
-        ensures own { self.new ≡ record self.old { faults = counted_by (due_act Kind.Get name.now self.old.deeds) self.old.faults } }
+        ensures own { self.new ≡ record self.old
+            { faults = counted_by (due_act Kind.Get name.now self.old.deeds) self.old.faults } }
     {
         let act = due(self.deeds.as_slice(), Kind::Get, name)?;
         if let Act::Fail = act {
@@ -158,7 +160,10 @@ impl<S: Store> ScriptStore<S> {
     // Whether a call that isn't a get is to fail, which is counted.
     fn fails(&mut self, call: Kind, name: &Name) -> bool
         ensures fails { result ≡ is_some (due_act call name.now self.old.deeds) }
-        ensures own { self.new ≡ record self.old { faults = (if result then counted self.old.faults else self.old.faults) } }
+        ensures own { self.new ≡ record self.old {
+          faults = (if result
+              then counted self.old.faults else self.old.faults);
+        } }
     {
         let fails = due(self.deeds.as_slice(), call, name).is_some();
         if fails {
@@ -170,7 +175,8 @@ impl<S: Store> ScriptStore<S> {
 
 // Takes away each deed for which this call is the last that it counts.
 fn drop_spent(deeds: &mut Vec<Deed>, call: Kind, name: &Name)
-    ensures { deeds.new.items ≡ filter (λ deed. not (is_spent_at call name.now deed)) deeds.old.items }
+    ensures { deeds.new.items ≡
+        filter (λ deed. not (is_spent_at call name.now deed)) deeds.old.items }
 {
     deeds.retain(|deed| !deed.is_spent(call, name));
 }
@@ -193,11 +199,16 @@ impl<S: Store> Store for ScriptStore<S> {
 
     fn get(&mut self, alloc: Global, name: &Name) -> Result<Option<Bytes>, StoreError>
         ensures traffic { None ≡ after_get None name.now result }
-        ensures cause { IsCaused (min (self.old.faults + S.faults self.old.inner) (2 ^ 64 - 1)) (min (self.new.faults + S.faults self.new.inner) (2 ^ 64 - 1)) result }
+        ensures cause { IsCaused (min (self.old.faults + S.faults self.old.inner) (2 ^
+            64 - 1)) (min (self.new.faults + S.faults self.new.inner) (2 ^ 64 - 1)) result }
         ensures short { IsWithinLimit result }
-        ensures answer { IfSome (due_act Kind.Get name.now self.old.deeds) (λ act. IsDone act result × (self.new.inner ≡ self.old.inner)) }
-        ensures passed { IfNone (due_act Kind.Get name.now self.old.deeds) ((S.traffic self.new.inner ≡ after_get (S.traffic self.old.inner) name.now result) × IsCaused (S.faults self.old.inner) (S.faults self.new.inner) result) }
-        ensures own { self.new.faults ≡ counted_by (due_act Kind.Get name.now self.old.deeds) self.old.faults }
+        ensures answer { IfSome (due_act Kind.Get name.now self.old.deeds) (λ act.
+            IsDone act result × (self.new.inner ≡ self.old.inner)) }
+        ensures passed { IfNone (due_act Kind.Get name.now self.old.deeds)
+            ((S.traffic self.new.inner ≡ after_get (S.traffic self.old.inner) name.now result) ×
+            IsCaused (S.faults self.old.inner) (S.faults self.new.inner) result) }
+        ensures own { self.new.faults ≡
+            counted_by (due_act Kind.Get name.now self.old.deeds) self.old.faults }
         ensures deeds { self.new.deeds ≡ left_by Kind.Get name.now self.old.deeds result }
     {
         let answer = match self.answer(alloc, name) {
@@ -212,10 +223,15 @@ impl<S: Store> Store for ScriptStore<S> {
 
     fn put(&mut self, alloc: Global, name: &Name, bytes: &[u8]) -> Result<(), StoreError>
         ensures traffic { None ≡ after_put None name.now bytes.now result }
-        ensures cause { IsCaused (min (self.old.faults + S.faults self.old.inner) (2 ^ 64 - 1)) (min (self.new.faults + S.faults self.new.inner) (2 ^ 64 - 1)) result }
-        ensures answer { IfSome (due_act Kind.Put name.now self.old.deeds) (λ act. (result ≡ Err StoreError.Failed) × (self.new.inner ≡ self.old.inner)) }
-        ensures passed { IfNone (due_act Kind.Put name.now self.old.deeds) ((S.traffic self.new.inner ≡ after_put (S.traffic self.old.inner) name.now bytes.now result) × IsCaused (S.faults self.old.inner) (S.faults self.new.inner) result) }
-        ensures own { self.new.faults ≡ (if is_some (due_act Kind.Put name.now self.old.deeds) then counted self.old.faults else self.old.faults) }
+        ensures cause { IsCaused (min (self.old.faults + S.faults self.old.inner) (2 ^
+            64 - 1)) (min (self.new.faults + S.faults self.new.inner) (2 ^ 64 - 1)) result }
+        ensures answer { IfSome (due_act Kind.Put name.now self.old.deeds) (λ act.
+            (result ≡ Err StoreError.Failed) × (self.new.inner ≡ self.old.inner)) }
+        ensures passed { IfNone (due_act Kind.Put name.now self.old.deeds) ((S.traffic
+            self.new.inner ≡ after_put (S.traffic self.old.inner) name.now bytes.now result) ×
+            IsCaused (S.faults self.old.inner) (S.faults self.new.inner) result) }
+        ensures own { self.new.faults ≡ (if is_some (due_act Kind.Put name.now self.old.deeds)
+            then counted self.old.faults else self.old.faults) }
         ensures deeds { self.new.deeds ≡ left_by Kind.Put name.now self.old.deeds result }
     {
         let answer = if self.fails(Kind::Put, name) {
@@ -231,10 +247,15 @@ impl<S: Store> Store for ScriptStore<S> {
 
     fn discard(&mut self, alloc: Global, name: &Name) -> Result<(), StoreError>
         ensures traffic { None ≡ after_discard None name.now result }
-        ensures cause { IsCaused (min (self.old.faults + S.faults self.old.inner) (2 ^ 64 - 1)) (min (self.new.faults + S.faults self.new.inner) (2 ^ 64 - 1)) result }
-        ensures answer { IfSome (due_act Kind.Discard name.now self.old.deeds) (λ act. (result ≡ Err StoreError.Failed) × (self.new.inner ≡ self.old.inner)) }
-        ensures passed { IfNone (due_act Kind.Discard name.now self.old.deeds) ((S.traffic self.new.inner ≡ after_discard (S.traffic self.old.inner) name.now result) × IsCaused (S.faults self.old.inner) (S.faults self.new.inner) result) }
-        ensures own { self.new.faults ≡ (if is_some (due_act Kind.Discard name.now self.old.deeds) then counted self.old.faults else self.old.faults) }
+        ensures cause { IsCaused (min (self.old.faults + S.faults self.old.inner) (2 ^
+            64 - 1)) (min (self.new.faults + S.faults self.new.inner) (2 ^ 64 - 1)) result }
+        ensures answer { IfSome (due_act Kind.Discard name.now self.old.deeds) (λ act.
+            (result ≡ Err StoreError.Failed) × (self.new.inner ≡ self.old.inner)) }
+        ensures passed { IfNone (due_act Kind.Discard name.now self.old.deeds)
+            ((S.traffic self.new.inner ≡ after_discard (S.traffic self.old.inner) name.now result) ×
+            IsCaused (S.faults self.old.inner) (S.faults self.new.inner) result) }
+        ensures own { self.new.faults ≡ (if is_some (due_act Kind.Discard name.now self.old.deeds)
+            then counted self.old.faults else self.old.faults) }
         ensures deeds { self.new.deeds ≡ left_by Kind.Discard name.now self.old.deeds result }
     {
         let answer = if self.fails(Kind::Discard, name) {

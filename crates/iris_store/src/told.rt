@@ -77,7 +77,8 @@ impl<S: Store> Store for Told<S> {
         ensures traffic { Some self.new.1 ≡ after_get (Some self.old.1) name.now result }
         ensures cause { IsCaused (S.faults self.old.0) (S.faults self.new.0) result }
         ensures short { IsWithinLimit result }
-        ensures passed { result ≢ Err StoreError.NoMemory → S.traffic self.new.0 ≡ after_get (S.traffic self.old.0) name.now result }
+        ensures passed { result ≢ Err StoreError.NoMemory →
+            S.traffic self.new.0 ≡ after_get (S.traffic self.old.0) name.now result }
     {
         self.told.reserve(1)?;
         let given = self.inner.get(alloc, name);
@@ -92,7 +93,8 @@ impl<S: Store> Store for Told<S> {
     fn put(&mut self, alloc: Global, name: &Name, bytes: &[u8]) -> Result<(), StoreError>
         ensures traffic { Some self.new.1 ≡ after_put (Some self.old.1) name.now bytes.now result }
         ensures cause { IsCaused (S.faults self.old.0) (S.faults self.new.0) result }
-        ensures passed { result ≢ Err StoreError.NoMemory → S.traffic self.new.0 ≡ after_put (S.traffic self.old.0) name.now bytes.now result }
+        ensures passed { result ≢ Err StoreError.NoMemory →
+            S.traffic self.new.0 ≡ after_put (S.traffic self.old.0) name.now bytes.now result }
     {
         self.told.reserve(1)?;
         let copy = Bytes::of(bytes.to_vec(alloc)?);
@@ -109,7 +111,8 @@ impl<S: Store> Store for Told<S> {
     fn discard(&mut self, alloc: Global, name: &Name) -> Result<(), StoreError>
         ensures traffic { Some self.new.1 ≡ after_discard (Some self.old.1) name.now result }
         ensures cause { IsCaused (S.faults self.old.0) (S.faults self.new.0) result }
-        ensures passed { result ≢ Err StoreError.NoMemory → S.traffic self.new.0 ≡ after_discard (S.traffic self.old.0) name.now result }
+        ensures passed { result ≢ Err StoreError.NoMemory →
+            S.traffic self.new.0 ≡ after_discard (S.traffic self.old.0) name.now result }
     {
         self.told.reserve(1)?;
         let given = self.inner.discard(alloc, name);

@@ -28,8 +28,11 @@ pub fn insert(
     file: Option<FileRow>,
 ) -> Result<(), NoMemory>
     requires named { 0 < length names.now }
-    requires parent { is_directory_seen (seen_row (met_in items.old.items (parent names.now))) ≡ true }
-    ensures ok { OnOk result (grown 0 items.new.items ≡ at (parent names.now) (with_row (last names.now) (record { id = id.0; file = kept_file file; inside = End })) (grown 0 items.old.items)) }
+    requires parent { is_directory_seen
+        (seen_row (met_in items.old.items (parent names.now))) ≡ true }
+    ensures ok { OnOk result (grown 0 items.new.items ≡
+        at (parent names.now) (with_row (last names.now)
+        (record { id = id.0; file = kept_file file; inside = End })) (grown 0 items.old.items)) }
     ensures err { OnErr result (items.new.items ≡ items.old.items) }
     ensures forest { IsForest items.old.items → IsForest items.new.items }
 {
@@ -49,8 +52,11 @@ pub fn remove(
     requires named { 0 < length names.now }
     requires there { is_there (seen_row (met_in visible.old.items names.now)) ≡ true }
     requires forest { IsForest visible.old.items }
-    ensures ok { OnOk result ((next age : ℕ) → table_over visible.new.items trash.new.items next (age + 1) ≡ removed names.now (table_over visible.old.items trash.old.items next age) (met_in visible.old.items names.now)) }
-    ensures err { OnErr result ((visible.new.items ≡ visible.old.items) × (trash.new.items ≡ trash.old.items)) }
+    ensures ok { OnOk result ((next age : ℕ) →
+        table_over visible.new.items trash.new.items next (age + 1) ≡ removed names.now (table_over
+        visible.old.items trash.old.items next age) (met_in visible.old.items names.now)) }
+    ensures err { OnErr result ((visible.new.items ≡ visible.old.items) ×
+        (trash.new.items ≡ trash.old.items)) }
     ensures visible_forest { IsForest visible.new.items }
     ensures trash_forest { IsForest trash.old.items → IsForest trash.new.items }
     ensures spare { OnOk result (vec_len visible.new + 1 ≤ vec_capacity visible.new) }
@@ -75,8 +81,12 @@ pub fn empty(
     requires forest { IsForest visible.old.items }
     requires distinct { IsDistinct (grown 0 visible.old.items) }
     requires file { file_of file ≡ empty_file }
-    ensures ok { OnOk result ((age : ℕ) → table_over visible.new.items trash.new.items (id.0 + 1) (age + 1) ≡ emptied names.now (table_over visible.old.items trash.old.items id.0 age) (met_in visible.old.items names.now)) }
-    ensures err { OnErr result ((visible.new.items ≡ visible.old.items) × (trash.new.items ≡ trash.old.items)) }
+    ensures ok { OnOk result ((age : ℕ) →
+        table_over visible.new.items trash.new.items (id.0 + 1) (age + 1) ≡
+        emptied names.now (table_over visible.old.items trash.old.items id.0 age)
+        (met_in visible.old.items names.now)) }
+    ensures err { OnErr result ((visible.new.items ≡ visible.old.items) ×
+        (trash.new.items ≡ trash.old.items)) }
     ensures visible_forest { IsForest visible.new.items }
     ensures trash_forest { IsForest trash.old.items → IsForest trash.new.items }
 {
@@ -96,11 +106,14 @@ pub fn rename(
     requires old_named { 0 < length olds.now }
     requires new_named { 0 < length news.now }
     requires there { is_there (seen_row (met_in visible.old.items olds.now)) ≡ true }
-    requires parent { is_directory_seen (seen_row (met_in visible.old.items (parent news.now))) ≡ true }
+    requires parent { is_directory_seen
+        (seen_row (met_in visible.old.items (parent news.now))) ≡ true }
     requires ahead { is_front olds.now news.now ≡ false }
     requires forest { IsForest visible.old.items }
     requires distinct { IsDistinct (grown 0 visible.old.items) }
-    ensures ok { OnOk result ((trash : List Item) (next age : ℕ) → table_over visible.new.items trash next (age + 1) ≡ row_moved olds.now news.now (table_over visible.old.items trash next age) (met_in visible.old.items olds.now)) }
+    ensures ok { OnOk result ((trash : List Item) (next age : ℕ) →
+        table_over visible.new.items trash next (age + 1) ≡ row_moved olds.now news.now
+        (table_over visible.old.items trash next age) (met_in visible.old.items olds.now)) }
     ensures err { OnErr result (visible.new.items ≡ visible.old.items) }
     ensures visible_forest { IsForest visible.new.items }
 {
@@ -127,9 +140,11 @@ pub fn write_at(
     requires named { 0 < length names.now }
     requires some { 0 < length bytes.now }
     requires room { offset + length bytes.now ≤ 268435456 }
-    requires counter { (file : File) → file_met (met_in items.old names.now) ≡ Some file → file.counter < 2 ^ 63 }
+    requires counter { (file : File) →
+        file_met (met_in items.old names.now) ≡ Some file → file.counter < 2 ^ 63 }
     requires file { is_file (seen_row (met_in items.old names.now)) ≡ true }
-    ensures ok { OnOk result (grown 0 items.new ≡ at (parent names.now) (file_at (last names.now) (file_written offset bytes.now)) (grown 0 items.old)) }
+    ensures ok { OnOk result (grown 0 items.new ≡ at (parent names.now)
+        (file_at (last names.now) (file_written offset bytes.now)) (grown 0 items.old)) }
     ensures err { OnErr result (items.new ≡ items.old) }
     ensures forest { IsForest items.old → IsForest items.new }
 {
@@ -164,9 +179,11 @@ pub fn resize_at(
 ) -> Result<(), NoMemory>
     requires named { 0 < length names.now }
     requires room { size ≤ 268435456 }
-    requires counter { (file : File) → file_met (met_in items.old names.now) ≡ Some file → file.counter < 2 ^ 63 }
+    requires counter { (file : File) →
+        file_met (met_in items.old names.now) ≡ Some file → file.counter < 2 ^ 63 }
     requires file { is_file (seen_row (met_in items.old names.now)) ≡ true }
-    ensures ok { OnOk result (grown 0 items.new ≡ at (parent names.now) (file_at (last names.now) (cut size)) (grown 0 items.old)) }
+    ensures ok { OnOk result (grown 0 items.new ≡
+        at (parent names.now) (file_at (last names.now) (cut size)) (grown 0 items.old)) }
     ensures err { OnErr result (items.new ≡ items.old) }
     ensures forest { IsForest items.old → IsForest items.new }
 {

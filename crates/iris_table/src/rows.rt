@@ -118,7 +118,8 @@ pub fn seen(items: &[Item], names: &[Text]) -> Seen
 
 /// The file at a path.
 pub fn file_at<'a>(items: &'a [Item], names: &[Text]) -> Option<&'a FileRow>
-    ensures { MatchOption result (file_met (met_in items.now names.now) ≡ None) (λ file. file_met (met_in items.now names.now) ≡ Some (file_of file.now)) }
+    ensures { MatchOption result (file_met (met_in items.now names.now) ≡ None) (λ file.
+        file_met (met_in items.now names.now) ≡ Some (file_of file.now)) }
 {
     if names.is_empty() {
         return None;
@@ -145,7 +146,8 @@ pub fn begin(items: &[Item], names: &[Text]) -> usize
 
 // The least name of a directory that is greater than another.
 fn next_name<'a>(items: &'a [Item], depth: usize, after: &Text) -> Option<&'a Text>
-    ensures { MatchOption result (NoneLater (is_name_of (grown depth items.now)) after.now) (λ name. IsNext (is_name_of (grown depth items.now)) after.now name.now) }
+    ensures { MatchOption result (NoneLater (is_name_of (grown depth items.now)) after.now) (λ name.
+        IsNext (is_name_of (grown depth items.now)) after.now name.now) }
 {
     let mut best: Option<&'a Text> = None;
     for item in items {
@@ -161,7 +163,8 @@ fn next_name<'a>(items: &'a [Item], depth: usize, after: &Text) -> Option<&'a Te
 
 /// A page of the names of a directory that are greater than another, up to 64. Where no directory is there, no names.
 pub fn page(alloc: Global, items: &[Item], names: &[Text], after: &Text) -> Result<Texts, NoMemory>
-    ensures { IfOk result (λ page. IsPage (has_entry_named (λ path. kind_below path (root_of items.now)) names.now) 64 after.now page) }
+    ensures { IfOk result (λ page. IsPage (has_entry_named (λ path.
+        kind_below path (root_of items.now)) names.now) 64 after.now page) }
 {
     match seen(items, names) {
         Seen::ADirectory => page_of(alloc, &items[begin(items, names)..], names.len(), after),

@@ -18,7 +18,8 @@ use std::alloc::Global;
 fn take_out(items: &mut Vec<Item>, at: usize, count: usize) -> Result<Vec<Item>, NoMemory>
     requires { at + count ≤ vec_len items.old }
     ensures taken { IfOk result (λ run. run.items ≡ take count (drop at items.old.items)) }
-    ensures left { OnOk result (items.new.items ≡ take at items.old.items ++ drop (at + count) items.old.items) }
+    ensures left { OnOk result (items.new.items ≡
+        take at items.old.items ++ drop (at + count) items.old.items) }
     ensures len { IfOk result (λ run. vec_len run ≡ count) }
     ensures err { OnErr result (items.new.items ≡ items.old.items) }
     ensures capacity { vec_capacity items.new ≡ vec_capacity items.old }
@@ -57,10 +58,12 @@ fn relabel(run: &mut [Item], from: usize, to: usize, name: Text)
 // Puts a run in at a path. There is room for it.
 pub(crate) fn put_at(items: &mut Vec<Item>, names: &[Text], run: Vec<Item>)
     requires named { 0 < length names.now }
-    requires parent { is_directory_seen (seen_row (met_in items.old.items (parent names.now))) ≡ true }
+    requires parent { is_directory_seen
+        (seen_row (met_in items.old.items (parent names.now))) ≡ true }
     requires run { IsRun (length names.now - 1) (last names.now) run.items }
     requires spare { vec_len items.old + vec_len run ≤ vec_capacity items.old }
-    ensures rows { grown 0 items.new.items ≡ at (parent names.now) (with_row (last names.now) (run_row run.items)) (grown 0 items.old.items) }
+    ensures rows { grown 0 items.new.items ≡ at (parent names.now)
+        (with_row (last names.now) (run_row run.items)) (grown 0 items.old.items) }
     ensures forest { IsForest items.old.items → IsForest items.new.items }
 {
     let depth = names.len() - 1;
@@ -78,7 +81,8 @@ pub(crate) fn leaf(
 ) -> Result<Vec<Item>, NoMemory>
     requires { 0 < length names.now }
     ensures run { IfOk result (λ run. IsRun (length names.now - 1) (last names.now) run.items) }
-    ensures row { IfOk result (λ run. run_row run.items ≡ record { id = id.0; file = kept_file file; inside = End }) }
+    ensures row { IfOk result (λ run.
+        run_row run.items ≡ record { id = id.0; file = kept_file file; inside = End }) }
     ensures len { IfOk result (λ run. vec_len run ≡ 1) }
 {
     let depth = names.len() - 1;
@@ -105,7 +109,8 @@ pub(crate) fn lift(
     requires forest { IsForest items.old.items }
     ensures run { IfOk result (λ run. IsRun to name run.items) }
     ensures row { IfOk result (λ run. run_row run.items ≡ run_row (drop place items.old.items)) }
-    ensures left { OnOk result (items.new.items ≡ take place items.old.items ++ after_run (drop place items.old.items)) }
+    ensures left { OnOk result (items.new.items ≡
+        take place items.old.items ++ after_run (drop place items.old.items)) }
     ensures count { IfOk result (λ run. vec_len run ≡ run_length (drop place items.old.items)) }
     ensures len { IfOk result (λ run. vec_len run + vec_len items.new ≡ vec_len items.old) }
     ensures err { OnErr result (items.new.items ≡ items.old.items) }

@@ -46,7 +46,8 @@ impl Model for State {
 
     ghost Value = { State };
 
-    ghost view = { λ s. record { visible = s.visible.items; trash = s.trash.items; next = s.next; age = s.age } };
+    ghost view = { λ s.
+        record { visible = s.visible.items; trash = s.trash.items; next = s.next; age = s.age } };
 }
 
 impl State {
@@ -88,7 +89,8 @@ impl State {
     /// The block at a place of the walk over all blocks.
     pub fn probe(&self, at: u64) -> Reply
         requires { IsServedWhole self.now }
-        ensures { (order : List ℕ) → IsProbed (table_in self.now) (slice_get (table_walk order (table_in self.now)) at) result }
+        ensures { (order : List ℕ) → IsProbed (table_in self.now)
+            (slice_get (table_walk order (table_in self.now)) at) result }
     {
         probe(self.visible.as_slice(), self.trash.as_slice(), at)
     }
@@ -125,8 +127,10 @@ impl State {
     ) -> Result<Reply, NoMemory>
         requires { IsServedWhole self.old }
         ensures reply { IfOk result (λ reply. Told (table_in self.old) (Mkdir path.now) reply) }
-        ensures step { OnOk result (table_in self.new ≡ (if is_none (table_verdict (table_in self.old) (Mkdir path.now))
-            then by_names (table_in self.old) (names_of path.now) (λ names. made (kept_file file) names (table_in self.old)) else table_in self.old)) }
+        ensures step { OnOk result (table_in self.new ≡
+            (if is_none (table_verdict (table_in self.old) (Mkdir path.now))
+            then by_names (table_in self.old) (names_of path.now) (λ names.
+            made (kept_file file) names (table_in self.old)) else table_in self.old)) }
         ensures err { OnErr result (self.new ≡ self.old) }
         ensures forests { AreForests self.new }
     {
@@ -152,8 +156,10 @@ impl State {
         bytes: &Bytes,
     ) -> Result<Reply, NoMemory>
         requires { IsServedWhole self.old }
-        ensures reply { IfOk result (λ reply. Told (table_in self.old) (Write path.now offset bytes.now) reply) }
-        ensures step { OnOk result (table_in self.new ≡ stepped (table_in self.old) (Write path.now offset bytes.now)) }
+        ensures reply { IfOk result (λ reply.
+            Told (table_in self.old) (Write path.now offset bytes.now) reply) }
+        ensures step { OnOk result (table_in self.new ≡
+            stepped (table_in self.old) (Write path.now offset bytes.now)) }
         ensures err { OnErr result (self.new ≡ self.old) }
         ensures forests { AreForests self.new }
     {
@@ -187,7 +193,8 @@ impl State {
         offset: u64,
         count: u64,
     ) -> Result<Reply, NoMemory>
-        ensures { IfOk result (λ reply. Told (table_in self.now) (Read path.now offset count) reply) }
+        ensures { IfOk result (λ reply.
+            Told (table_in self.now) (Read path.now offset count) reply) }
     {
         let Some(path) = read_path(alloc, path)? else {
             return Ok(Reply::Plain(PlainError::BadPath));
@@ -204,8 +211,10 @@ impl State {
     /// A new length of the file at the path of a text.
     pub fn resize(&mut self, alloc: Global, path: &Text, size: u64) -> Result<Reply, NoMemory>
         requires { IsServedWhole self.old }
-        ensures reply { IfOk result (λ reply. Told (table_in self.old) (Resize path.now size) reply) }
-        ensures step { OnOk result (table_in self.new ≡ stepped (table_in self.old) (Resize path.now size)) }
+        ensures reply { IfOk result (λ reply.
+            Told (table_in self.old) (Resize path.now size) reply) }
+        ensures step { OnOk result (table_in self.new ≡
+            stepped (table_in self.old) (Resize path.now size)) }
         ensures err { OnErr result (self.new ≡ self.old) }
         ensures forests { AreForests self.new }
     {
@@ -259,7 +268,8 @@ impl State {
 
     /// A page of the names of the directory at the path of a text.
     pub fn list(&self, alloc: Global, path: &Text, after: &Text) -> Result<Reply, NoMemory>
-        ensures { IfOk result (λ reply. Told (table_in self.now) (ListNames path.now after.now) reply) }
+        ensures { IfOk result (λ reply.
+            Told (table_in self.now) (ListNames path.now after.now) reply) }
     {
         let Some(path) = read_path(alloc, path)? else {
             return Ok(Reply::Plain(PlainError::BadPath));
@@ -274,8 +284,10 @@ impl State {
     /// Takes what stands at the path of one text to that of another.
     pub fn rename(&mut self, alloc: Global, from: &Text, to: &Text) -> Result<Reply, NoMemory>
         requires { IsServedWhole self.old }
-        ensures reply { IfOk result (λ reply. Told (table_in self.old) (Rename from.now to.now) reply) }
-        ensures step { OnOk result (table_in self.new ≡ stepped (table_in self.old) (Rename from.now to.now)) }
+        ensures reply { IfOk result (λ reply.
+            Told (table_in self.old) (Rename from.now to.now) reply) }
+        ensures step { OnOk result (table_in self.new ≡
+            stepped (table_in self.old) (Rename from.now to.now)) }
         ensures err { OnErr result (self.new ≡ self.old) }
         ensures forests { AreForests self.new }
     {
@@ -305,7 +317,8 @@ impl State {
     pub fn remove(&mut self, alloc: Global, path: &Text) -> Result<Reply, NoMemory>
         requires { IsServedWhole self.old }
         ensures reply { IfOk result (λ reply. Told (table_in self.old) (Remove path.now) reply) }
-        ensures step { OnOk result (table_in self.new ≡ stepped (table_in self.old) (Remove path.now)) }
+        ensures step { OnOk result (table_in self.new ≡
+            stepped (table_in self.old) (Remove path.now)) }
         ensures err { OnErr result (self.new ≡ self.old) }
         ensures forests { AreForests self.new }
     {
@@ -324,7 +337,8 @@ impl State {
     /// One step on the trash.
     pub fn reclaim(&mut self, alloc: Global) -> Result<Reply, NoMemory>
         requires { IsServedWhole self.old }
-        ensures reply { IfOk result (λ reply. reply ≡ Reclaimed (is_left (table_in self.new).trash)) }
+        ensures reply { IfOk result (λ reply.
+            reply ≡ Reclaimed (is_left (table_in self.new).trash)) }
         ensures step { OnOk result (table_in self.new ≡ stepped (table_in self.old) Reclaim) }
         ensures err { OnErr result (self.new ≡ self.old) }
         ensures forests { AreForests self.new }

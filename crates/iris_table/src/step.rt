@@ -26,7 +26,13 @@ impl Model for Table {
 
     ghost Value = { Served };
 
-    ghost view = { λ t. record { keys = t.keys; visible = t.state.visible; trash = t.state.trash; next = t.state.next; age = t.state.age } };
+    ghost view = { λ t. record {
+      keys = t.keys;
+      visible = t.state.visible;
+      trash = t.state.trash;
+      next = t.state.next;
+      age = t.state.age;
+    } };
 
     ghost invariant = { λ t. IsServedWhole t.state };
 }
@@ -39,7 +45,8 @@ fn serve(
     request: &Request,
 ) -> Result<Reply, NoMemory>
     requires whole { IsServedWhole state.old }
-    ensures reply { IfOk result (λ reply. TableReplies keys.now.order (table_in state.old) request.now reply) }
+    ensures reply { IfOk result (λ reply.
+        TableReplies keys.now.order (table_in state.old) request.now reply) }
     ensures step { OnOk result (table_in state.new ≡ stepped (table_in state.old) request.now) }
     ensures err { OnErr result (state.new ≡ state.old) }
     ensures forests { AreForests state.new }
@@ -83,8 +90,10 @@ impl Table {
 
     /// One request: the reply by its checks, and the next table. A plain error changes nothing.
     pub fn step(&mut self, alloc: Global, request: &Request) -> Result<Reply, NoMemory>
-        ensures reply { IfOk result (λ reply. TableReplies self.old.keys.order (served_table self.old) request.now reply) }
-        ensures step { OnOk result (served_table self.new ≡ stepped (served_table self.old) request.now) }
+        ensures reply { IfOk result (λ reply.
+            TableReplies self.old.keys.order (served_table self.old) request.now reply) }
+        ensures step { OnOk result (served_table self.new ≡
+            stepped (served_table self.old) request.now) }
         ensures keys { self.new.keys ≡ self.old.keys }
         ensures err { OnErr result (self.new ≡ self.old) }
     {

@@ -22,9 +22,12 @@ pub(crate) fn throw(
 ) -> Result<(), NoMemory>
     requires within { place < vec_len visible.old }
     requires forest { IsForest visible.old.items }
-    ensures left { OnOk result (visible.new.items ≡ take place visible.old.items ++ after_run (drop place visible.old.items)) }
-    ensures trash { OnOk result (grown 0 trash.new.items ≡ thrown (run_row (drop place visible.old.items)) (grown 0 trash.old.items)) }
-    ensures err { OnErr result ((visible.new.items ≡ visible.old.items) × (trash.new.items ≡ trash.old.items)) }
+    ensures left { OnOk result (visible.new.items ≡
+        take place visible.old.items ++ after_run (drop place visible.old.items)) }
+    ensures trash { OnOk result (grown 0 trash.new.items ≡
+        thrown (run_row (drop place visible.old.items)) (grown 0 trash.old.items)) }
+    ensures err { OnErr result ((visible.new.items ≡ visible.old.items) ×
+        (trash.new.items ≡ trash.old.items)) }
     ensures spare { OnOk result (vec_len visible.new + 1 ≤ vec_capacity visible.new) }
     ensures kept { IsForest visible.new.items }
     ensures forest { IsForest trash.old.items → IsForest trash.new.items }
@@ -41,7 +44,8 @@ pub(crate) fn throw(
 fn put_in_trash(trash: &mut Vec<Item>, run: Vec<Item>)
     requires run { IsRun 0 (first_name run.items) run.items }
     requires spare { vec_len trash.old + vec_len run ≤ vec_capacity trash.old }
-    ensures rows { grown 0 trash.new.items ≡ with_row (first_name run.items) (run_row run.items) (grown 0 trash.old.items) }
+    ensures rows { grown 0 trash.new.items ≡
+        with_row (first_name run.items) (run_row run.items) (grown 0 trash.old.items) }
     ensures forest { IsForest trash.old.items → IsForest trash.new.items }
 {
     let at = room(trash.as_slice(), 0, 0, &run[0].name);
@@ -52,7 +56,9 @@ fn put_in_trash(trash: &mut Vec<Item>, run: Vec<Item>)
 /// inside it moves into the trash under its own name.
 pub fn reclaim(alloc: Global, trash: &mut Vec<Item>) -> Result<(), NoMemory>
     requires { IsForest trash.old.items }
-    ensures ok { OnOk result ((visible : List Item) (next age : ℕ) → table_over visible trash.new.items next age ≡ reclaimed (table_over visible trash.old.items next age) (grown 0 trash.old.items)) }
+    ensures ok { OnOk result ((visible : List Item) (next age : ℕ) →
+        table_over visible trash.new.items next age ≡
+        reclaimed (table_over visible trash.old.items next age) (grown 0 trash.old.items)) }
     ensures err { OnErr result (trash.new.items ≡ trash.old.items) }
     ensures forest { IsForest trash.new.items }
 {
@@ -95,7 +101,8 @@ fn free_first(trash: &mut [Item]) -> bool
 fn throw_first(alloc: Global, trash: &mut Vec<Item>) -> Result<(), NoMemory>
     requires forest { IsForest trash.old.items }
     requires within { has_child trash.old.items ≡ true }
-    ensures ok { OnOk result (grown 0 trash.new.items ≡ thrown (run_row (drop 1 trash.old.items)) (grown 0 (take 1 trash.old.items ++ after_run (drop 1 trash.old.items)))) }
+    ensures ok { OnOk result (grown 0 trash.new.items ≡ thrown (run_row (drop 1 trash.old.items))
+        (grown 0 (take 1 trash.old.items ++ after_run (drop 1 trash.old.items)))) }
     ensures err { OnErr result (trash.new.items ≡ trash.old.items) }
     ensures kept { IsForest trash.new.items }
 {

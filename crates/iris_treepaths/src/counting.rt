@@ -73,7 +73,9 @@ fn counted_entry(entry: EntryNode, child: &Name, blocks: u64) -> EntryNode
 fn parent_seen(draft: &Draft, cache: &Cache, name: &Name) -> Option<Name>
     ensures parent { IfSome result (λ p. parent_after draft.now cache.now name.now ≡ Some p) }
     ensures there { IfSome result (λ p. IsSome (seen draft.now cache.now p)) }
-    ensures none { result ≡ None → (p : SpecName) → parent_after draft.now cache.now name.now ≡ Some p → IsSome (seen draft.now cache.now p) → ⊥ }
+    ensures none { result ≡ None →
+        (p : SpecName) → parent_after draft.now cache.now name.now ≡ Some p →
+        IsSome (seen draft.now cache.now p) → ⊥ }
 {
     let parent = draft.parent(cache, name)?;
     match draft.view(cache, &parent) {
@@ -91,7 +93,8 @@ fn recount_one(
     parent: &Name,
 ) -> Result<bool, NoMemory>
     ensures counts { OnOk result (Recounts child.now parent.now draft.old draft.new cache.now) }
-    ensures right { IfOk result (λ wrong. wrong ≡ false → HasChildCount child.now parent.now draft.old cache.now) }
+    ensures right { IfOk result (λ wrong. wrong ≡ false →
+        HasChildCount child.now parent.now draft.old cache.now) }
 {
     draft.sound();
     cache.sound();
@@ -119,10 +122,14 @@ pub fn recount(
     cache: &Cache,
     child: FileId,
 ) -> Result<(), NoMemory>
-    ensures counted { OnOk result ((old new made : Shown) → (hand : Option Row) → IsTree new → IsTree made → IsCountable made
-        → Lags old new made hand (Name.Entry child) draft.old cache.now → Holding old made hand draft.new cache.now) }
-    ensures stays { OnOk result ((n : SpecName) → IsSome (seen draft.old cache.now n) → IsSome (seen draft.new cache.now n)) }
-    ensures others { OnOk result ((n : SpecName) → (IsEntryName n → ⊥) → drafted draft.new n ≡ drafted draft.old n) }
+    ensures counted { OnOk result ((old new made : Shown) →
+        (hand : Option Row) → IsTree new → IsTree made →
+        IsCountable made → Lags old new made hand (Name.Entry child) draft.old cache.now →
+        Holding old made hand draft.new cache.now) }
+    ensures stays { OnOk result ((n : SpecName) →
+        IsSome (seen draft.old cache.now n) → IsSome (seen draft.new cache.now n)) }
+    ensures others { OnOk result ((n : SpecName) →
+        (IsEntryName n → ⊥) → drafted draft.new n ≡ drafted draft.old n) }
 {
     let most = u64::from(draft.count()) + u64::from(cache.count()) + 1;
     let mut at = Name::Entry { id: child };

@@ -60,7 +60,8 @@ fn link_in(node: &Node, id: FileId) -> Option<Link>
 
 // The link to an entry that its parent in the cache has.
 fn link_held(cache: &Cache, id: FileId) -> Option<Link>
-    ensures { (h g : HeldRecord) → (p : SpecName) → held_node cache.now (Name.Entry id) ≡ Some h → h.parent ≡ Some p → held_node cache.now p ≡ Some g → IsLinkIn g.node id result }
+    ensures { (h g : HeldRecord) → (p : SpecName) → held_node cache.now (Name.Entry id) ≡ Some h →
+        h.parent ≡ Some p → held_node cache.now p ≡ Some g → IsLinkIn g.node id result }
 {
     let parent = cache.find(&Name::Entry { id })?.parent?;
     link_in(&cache.find(&parent)?.node, id)
@@ -69,7 +70,9 @@ fn link_held(cache: &Cache, id: FileId) -> Option<Link>
 /// The hash that the cache holds of an entry, or any.
 pub fn hash_held(cache: &Cache, id: FileId) -> Hash32
     requires { 2 ≤ id.0 }
-    ensures { (old : Shown) → IsRooted old → AreFormed old → Pictures old cache.now → IsSome (held_node cache.now (Name.Entry id)) → WasHash old cache.now (Name.Entry id) result }
+    ensures { (old : Shown) → IsRooted old →
+        AreFormed old → Pictures old cache.now → IsSome (held_node cache.now (Name.Entry id)) →
+        WasHash old cache.now (Name.Entry id) result }
 {
     match link_held(cache, id) {
         Some(link) => link.hash,

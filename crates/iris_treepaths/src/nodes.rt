@@ -186,13 +186,9 @@ fn copied(alloc: Global, entry: &EntryNode) -> Result<EntryNode, Short>
 }
 
 /// The entry to which a link leads. Where something else is there, want of memory is answered.
-pub fn entry_at(
-    alloc: Global,
-    draft: &Draft,
-    cache: &Cache,
-    link: Link,
-) -> Result<EntryNode, Short>
-    ensures entry { IfOk result (λ e. seen draft.now cache.now (Name.Entry link.id) ≡ Some (Node.Entry e)) }
+pub fn entry_at(alloc: Global, draft: &Draft, cache: &Cache, link: Link) -> Result<EntryNode, Short>
+    ensures entry { IfOk result (λ e.
+        seen draft.now cache.now (Name.Entry link.id) ≡ Some (Node.Entry e)) }
     ensures own { IfOk result (λ e. e.id ≡ link.id) }
     ensures short { IfErr result (IsLinkLack draft.now cache.now link) }
 {
@@ -223,7 +219,8 @@ fn top_in(entry: &EntryNode) -> Option<Option<Link>>
 /// The link inside a directory. Where a root has another node, want of memory is answered.
 pub fn top_of(draft: &Draft, cache: &Cache, dir: FileId) -> Result<Option<Link>, Short>
     requires { IsDirectory draft.now cache.now dir }
-    ensures top { IfOk result (λ top. dir_top (seen draft.now cache.now (Name.Entry dir)) ≡ Some top) }
+    ensures top { IfOk result (λ top.
+        dir_top (seen draft.now cache.now (Name.Entry dir)) ≡ Some top) }
     ensures linked { IfOk result (λ top. IsLinkToNamed top) }
     ensures short { IfErr result (IsTopLack draft.now cache.now dir) }
 {
@@ -273,8 +270,12 @@ pub fn set_top(
     top: Option<Link>,
 ) -> Result<(), NoMemory>
     requires { IsLinkToNamed top }
-    ensures entry { OnOk result ((e : EntryFields) → seen draft.old cache.now (Name.Entry dir) ≡ Some (Node.Entry e) → drafted draft.new (Name.Entry dir) ≡ Some (set_to (parent_after draft.old cache.now (Name.Entry dir)) (Node.Entry (with_top top e)))) }
-    ensures frame { OnOk result ((n : SpecName) → same_name (Name.Entry dir) n ≡ false → drafted draft.new n ≡ drafted draft.old n) }
+    ensures entry { OnOk result ((e : EntryFields) →
+        seen draft.old cache.now (Name.Entry dir) ≡ Some (Node.Entry e) →
+        drafted draft.new (Name.Entry dir) ≡ Some (set_to (parent_after draft.old cache.now
+        (Name.Entry dir)) (Node.Entry (with_top top e)))) }
+    ensures frame { OnOk result ((n : SpecName) →
+        same_name (Name.Entry dir) n ≡ false → drafted draft.new n ≡ drafted draft.old n) }
     ensures entries { OnOk result (OnlyEntries draft.old draft.new) }
 {
     draft.sound();

@@ -34,7 +34,8 @@ pub fn keep(
     right: bool,
     hash: Hash32,
 ) -> Result<(), NoMemory>
-    ensures { OnOk result (path.new.items ≡ path.old.items ++ record { node = node; right = right; hash = hash } ∷ []) }
+    ensures { OnOk result (path.new.items ≡
+        path.old.items ++ record { node = node; right = right; hash = hash } ∷ []) }
 {
     path.push(Crumb { node, right, hash })?;
     Ok(())
@@ -60,7 +61,8 @@ fn rehang(
     requires row { 2 ≤ crumb.node.id.0 }
     requires linked { IsLinkToNamed link }
     ensures link { IfOk result (LinksTo (turned crumb.right link crumb.node) crumb.hash) }
-    ensures set { OnOk result (IsPut draft.old draft.new (Some (name.Entry parent)) (turned crumb.right link crumb.node)) }
+    ensures set { OnOk result (IsPut draft.old draft.new
+        (Some (name.Entry parent)) (turned crumb.right link crumb.node)) }
 {
     let node = turn(crumb.node, crumb.right, link);
     hang(draft, parent, node, crumb.hash)
@@ -75,8 +77,11 @@ pub fn climb(
 ) -> Result<Option<Link>, NoMemory>
     requires named { AreNamed path.items }
     requires linked { IsLinkToNamed end }
-    ensures risen { IfOk result (λ k. (old : Shown) → (c : Resident) → (home u : Treap Row) → (lasts : SpecName → Bool) → (d : Drafted) → Once u → blocks (unfolded_rows u) < 2 ^ 64 → lasts (name.Entry dir) ≡ true
-        → Rises old c home lasts d draft.old (name.Entry dir) u path.items end → Rises old c home lasts d draft.new (name.Entry dir) u [] k) }
+    ensures risen { IfOk result (λ k. (old : Shown) →
+        (c : Resident) → (home u : Treap Row) → (lasts : SpecName → Bool) →
+        (d : Drafted) → Once u → blocks (unfolded_rows u) < 2 ^ 64 → lasts (name.Entry dir) ≡ true →
+        Rises old c home lasts d draft.old (name.Entry dir) u path.items end →
+        Rises old c home lasts d draft.new (name.Entry dir) u [] k) }
     ensures linked { IfOk result (λ k. IsLinkToNamed k) }
     ensures entries { OnOk result (OnlyEntries draft.old draft.new) }
 {

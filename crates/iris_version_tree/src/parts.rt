@@ -60,7 +60,9 @@ fn side_held(cache: &Cache, file: FileId, level: u8, index: u32) -> Option<Side>
 fn hash_held(cache: &Cache, file: FileId, level: u8, index: u32) -> Hash32
     requires level { level ≤ 16 }
     requires fits { (index + 1) * 2 ^ level ≤ places }
-    ensures { (old : Shown) → Pictures old cache.now → HadVersions old file → IsSome (held_node cache.now (Name.Part file level index)) → WasHash old cache.now (Name.Part file level index) result }
+    ensures { (old : Shown) → Pictures old cache.now →
+        HadVersions old file → IsSome (held_node cache.now (Name.Part file level index)) →
+        WasHash old cache.now (Name.Part file level index) result }
 {
     match side_held(cache, file, level, index) {
         Some(Side::Below(hash)) => hash,
@@ -75,7 +77,10 @@ fn side_of_part(cache: &Cache, file: FileId, level: u8, index: u32, was: Side) -
     requires fits { (index + 1) * 2 ^ level ≤ places }
     ensures below { IsBelowSide result }
     ensures kept { IsBelowSide was → result ≡ was }
-    ensures held { (h : Hash32) → result ≡ Hashed h → (IsBelowSide was → ⊥) → (old : Shown) → Pictures old cache.now → HadVersions old file → IsSome (held_node cache.now (Name.Part file level index)) → WasHash old cache.now (Name.Part file level index) h }
+    ensures held { (h : Hash32) →
+        result ≡ Hashed h → (IsBelowSide was → ⊥) → (old : Shown) → Pictures old cache.now →
+        HadVersions old file → IsSome (held_node cache.now (Name.Part file level index)) →
+        WasHash old cache.now (Name.Part file level index) h }
 {
     match was {
         Side::Below(_) => was,
@@ -109,11 +114,14 @@ pub(crate) fn halves_of(
     index: u32,
     side: Side,
 ) -> Result<Halves, Short>
-    ensures halves { IfOk result (λ r. AreHalvesOf side (part_seen (seen draft.now cache.now (Name.Part file level index))) r.low r.high) }
-    ensures known { IfOk result (λ _. IsKnownBelow side (known draft.now cache.now (Name.Part file level index))) }
+    ensures halves { IfOk result (λ r. AreHalvesOf side
+        (part_seen (seen draft.now cache.now (Name.Part file level index))) r.low r.high) }
+    ensures known { IfOk result (λ _.
+        IsKnownBelow side (known draft.now cache.now (Name.Part file level index))) }
     ensures floor { IfOk result (λ r. level ≡ 1 → IsFold r.low × IsFold r.high) }
     ensures short { IfErr result (IsNeedOf side (Name.Part file level index)) }
-    ensures missing { IfErr result (λ _. known draft.now cache.now (Name.Part file level index) ≡ None) }
+    ensures missing { IfErr result (λ _.
+        known draft.now cache.now (Name.Part file level index) ≡ None) }
 {
     let hash = match side {
         Side::Fold(_) => {
@@ -152,9 +160,12 @@ pub(crate) fn join(
     requires level { level ≤ 16 }
     requires fits { (index + 1) * 2 ^ level ≤ places }
     requires floor { level ≡ 1 → IsFold halves.low × IsFold halves.high }
-    ensures frame { OnOk result ((n : SpecName) → same_name (Name.Part file level index) n ≡ false → drafted draft.new n ≡ drafted draft.old n) }
-    ensures keeps { OnOk result ((n : SpecName) → drafted draft.new n ≡ None → drafted draft.old n ≡ None) }
-    ensures made { IfOk result (λ s. (old : Shown) → (v : ℕ → ℕ) → (w : ℕ → ℕ) → Joins old draft.old draft.new cache.now file v w level index was halves.low halves.high s) }
+    ensures frame { OnOk result ((n : SpecName) → same_name (Name.Part file level index) n ≡ false →
+        drafted draft.new n ≡ drafted draft.old n) }
+    ensures keeps { OnOk result ((n : SpecName) →
+        drafted draft.new n ≡ None → drafted draft.old n ≡ None) }
+    ensures made { IfOk result (λ s. (old : Shown) → (v : ℕ → ℕ) → (w : ℕ → ℕ) →
+        Joins old draft.old draft.new cache.now file v w level index was halves.low halves.high s) }
     ensures err { IfErr result (λ e. e ≡ Short.NoMemory) }
 {
     let name = Name::Part { file, level, index };

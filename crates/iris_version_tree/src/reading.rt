@@ -16,7 +16,8 @@ pub const PLACES: u32 = 65_536;
 pub fn version_at(draft: &Draft, cache: &Cache, file: FileId, place: u32) -> Result<u64, Short>
     requires entry { IsFile draft.now cache.now file }
     requires within { place < places }
-    ensures version { IfOk result (λ x. (old new : Shown) → (v : ℕ → ℕ) → Versioned old new file v draft.now cache.now → x ≡ v place) }
+    ensures version { IfOk result (λ x. (old new : Shown) →
+        (v : ℕ → ℕ) → Versioned old new file v draft.now cache.now → x ≡ v place) }
     ensures short { IfErr result (λ e. IsPartLack draft.now cache.now file place (place + 1) e) }
 {
     Ok(even_at(draft, cache, file, place)?.version)
@@ -42,7 +43,8 @@ pub fn first_written(
 ) -> Result<Option<u32>, Short>
     requires entry { IsFile draft.now cache.now file }
     requires within { from ≤ places }
-    ensures first { IfOk result (λ p. (old new : Shown) → (v : ℕ → ℕ) → Versioned old new file v draft.now cache.now → IsFirstWritten v from p) }
+    ensures first { IfOk result (λ p. (old new : Shown) →
+        (v : ℕ → ℕ) → Versioned old new file v draft.now cache.now → IsFirstWritten v from p) }
     ensures short { IfErr result (λ e. IsFirstLack draft.now cache.now file from e) }
 {
     let mut place = from;

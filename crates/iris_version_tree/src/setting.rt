@@ -56,10 +56,13 @@ fn set_range(
     requires some { span.low < span.high }
     requires floor { level ≡ 0 → IsFold side }
     ensures frame { OnOk result (DifferWithin draft.old draft.new file level index) }
-    ensures keeps { OnOk result ((n : SpecName) → drafted draft.new n ≡ None → drafted draft.old n ≡ None) }
-    ensures made { IfOk result (λ s. (old : Shown) → (v : ℕ → ℕ) → Turns old draft.old draft.new cache.now file v (with_range_set v span.low span.high span.version) level index side s) }
+    ensures keeps { OnOk result ((n : SpecName) →
+        drafted draft.new n ≡ None → drafted draft.old n ≡ None) }
+    ensures made { IfOk result (λ s. (old : Shown) → (v : ℕ → ℕ) → Turns old draft.old draft.new
+        cache.now file v (with_range_set v span.low span.high span.version) level index side s) }
     ensures floor { IfOk result (λ s. level ≡ 0 → IsFold s) }
-    ensures short { IfErr result (IsMissing draft.old cache.now file level index side span.low span.high) }
+    ensures short { IfErr result
+        (IsMissing draft.old cache.now file level index side span.low span.high) }
 {
     let (first, past) = bounds(level, index);
     if past <= span.low || span.high <= first {
@@ -128,9 +131,14 @@ fn set_entry(
     versions: Side,
 ) -> Result<(), NoMemory>
     requires { IsFile draft.old cache.now file }
-    ensures entry { OnOk result ((e : EntryFields) → seen draft.old cache.now (Name.Entry file) ≡ Some (Node.Entry e) → drafted draft.new (Name.Entry file) ≡ Some (set_to (parent_after draft.old cache.now (Name.Entry file)) (Node.Entry (entry_with versions e)))) }
-    ensures frame { OnOk result ((n : SpecName) → same_name (Name.Entry file) n ≡ false → drafted draft.new n ≡ drafted draft.old n) }
-    ensures keeps { OnOk result ((n : SpecName) → drafted draft.new n ≡ None → drafted draft.old n ≡ None) }
+    ensures entry { OnOk result ((e : EntryFields) →
+        seen draft.old cache.now (Name.Entry file) ≡ Some (Node.Entry e) →
+        drafted draft.new (Name.Entry file) ≡ Some (set_to (parent_after draft.old cache.now
+        (Name.Entry file)) (Node.Entry (entry_with versions e)))) }
+    ensures frame { OnOk result ((n : SpecName) →
+        same_name (Name.Entry file) n ≡ false → drafted draft.new n ≡ drafted draft.old n) }
+    ensures keeps { OnOk result ((n : SpecName) →
+        drafted draft.new n ≡ None → drafted draft.old n ≡ None) }
 {
     let parent = draft.parent(cache, &Name::Entry { id: file });
     let entry = entry_with(alloc, file_entry(draft, cache, file), versions)?;
@@ -151,14 +159,20 @@ pub fn plan_set(
     requires entry { IsFile draft.old cache.now file }
     requires some { low < high }
     requires within { high ≤ places }
-    ensures set { OnOk result ((old : Shown) → (new : Shown) → (v : ℕ → ℕ) → Versioned old new file v draft.old cache.now → HadVersions old file
-        → (made : Shown) → IsTree made → Reversions new made file (with_range_set v low high version) → Drafts old made draft.new cache.now) }
+    ensures set { OnOk result ((old : Shown) → (new : Shown) → (v : ℕ → ℕ) →
+        Versioned old new file v draft.old cache.now → HadVersions old file → (made : Shown) →
+        IsTree made → Reversions new made file (with_range_set v low high version) →
+        Drafts old made draft.new cache.now) }
     // Whatever is pictured, nothing but the side in the file's entry and the parts of the file is changed.
-    ensures entry { OnOk result ((e : EntryFields) → seen draft.old cache.now (Name.Entry file) ≡ Some (Node.Entry e) → HasEntryWith draft.new cache.now file e) }
+    ensures entry { OnOk result ((e : EntryFields) →
+        seen draft.old cache.now (Name.Entry file) ≡ Some (Node.Entry e) →
+        HasEntryWith draft.new cache.now file e) }
     ensures file { OnOk result (IsFile draft.new cache.now file) }
-    ensures others { OnOk result ((n : SpecName) → (IsPartWithin file 16 0 n → ⊥) → (n ≡ Name.Entry file → ⊥) → drafted draft.new n ≡ drafted draft.old n) }
+    ensures others { OnOk result ((n : SpecName) → (IsPartWithin file 16 0 n → ⊥) →
+        (n ≡ Name.Entry file → ⊥) → drafted draft.new n ≡ drafted draft.old n) }
     // What was drafted stays drafted.
-    ensures keeps { OnOk result ((n : SpecName) → drafted draft.new n ≡ None → drafted draft.old n ≡ None) }
+    ensures keeps { OnOk result ((n : SpecName) →
+        drafted draft.new n ≡ None → drafted draft.old n ≡ None) }
     ensures short { IfErr result (IsPartShort draft.old cache.now file low high) }
 {
     let side = top_side(draft, cache, file);

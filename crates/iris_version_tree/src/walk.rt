@@ -131,7 +131,9 @@ pub(crate) fn even_at(draft: &Draft, cache: &Cache, file: FileId, place: u32) ->
     requires entry { IsFile draft.now cache.now file }
     requires within { place < places }
     ensures level { IfOk result (λ e. e.level ≤ 16) }
-    ensures even { IfOk result (λ e. (old new : Shown) → (v : ℕ → ℕ) → Versioned old new file v draft.now cache.now → folded v e.level (place / 2 ^ e.level) ≡ One e.version) }
+    ensures even { IfOk result (λ e. (old new : Shown) →
+        (v : ℕ → ℕ) → Versioned old new file v draft.now cache.now →
+        folded v e.level (place / 2 ^ e.level) ≡ One e.version) }
     ensures short { IfErr result (λ e. IsPartLack draft.now cache.now file place (place + 1) e) }
 {
     let mut side = top_side(draft, cache, file);
