@@ -16,18 +16,17 @@ use Rattle.iris_node.specs.declared.node.Body.{Body}
 use Rattle.iris_node.specs.declared.node.Body.TheVariants.{Dir, File}
 use Rattle.iris_node.specs.declared.node.Node.TheVariants as node
 use Rattle.iris_node.specs.Fields.{EntryFields}
-use Rattle.iris_node.specs.Local.{Lead, led, led_by, local, entry_local}
+use Rattle.iris_node.specs.Local.{led, led_by, local, entry_local}
 use Rattle.iris_node.specs.Trees.{IsAbove, node_name}
-use Rattle.iris_node.specs.Unfolded.{Unfolded, Absent, Folder, Leaf, Even, Split, Stored, id_of, blocks, link_blocks}
+use Rattle.iris_node.specs.Unfolded.{Unfolded, Absent, Folder, Leaf, Even, Split, Stored, id_of, blocks}
 use Rattle.iris_node.specs.Walk.{BlockAt, walk, file_blocks, block_count}
 use Rattle.iris_node.proofs.Walking.{counted}
 use Rattle.iris_cache.specs.Pictures.{Holds, BodyHolds}
-use Rattle.iris_treepaths.specs.Nodes.{own_blocks}
 use Rattle.iris_dirtree.specs.Places.{down_to}
 use Rattle.iris_dirtree.specs.Turns.{IsTurn}
 use Rattle.iris_treepaths.specs.Ways.{Any}
 use Rattle.iris_dirtree.specs.declared.placing.Turn.TheVariants.{Own, Under}
-use Rattle.iris_treepaths.proofs.RowNodes.{led_blocks, like_blocks}
+use Rattle.iris_treepaths.proofs.RowNodes.{led_blocks}
 use Rattle.iris_dirtree.proofs.Stands.{link_holds}
 
 pub get_left : (xs ys : List BlockAt) (i : ℕ) → i < length xs → slice_get (xs ++ ys) i ≡ slice_get xs i

@@ -11,7 +11,7 @@ use Rattle.iris_node.specs.Fields.{EntryFields}
 use Rattle.iris_node.specs.Local.{led_by}
 use Rattle.iris_node.specs.Trees.{Shown}
 use Rattle.iris_node.specs.Unfolded.{id_of}
-use Rattle.iris_shape.specs.Treap.{Treap, Empty, Over, merge, onto, remove, way}
+use Rattle.iris_shape.specs.Treap.{Treap, Empty, Over, merge, onto, way}
 use Rattle.iris_cache.specs.declared.held.Short.{Short}
 use Rattle.iris_cache.specs.Resident.{Resident}
 use Rattle.iris_cache.specs.Drafted.{Drafted, drafted, seen}

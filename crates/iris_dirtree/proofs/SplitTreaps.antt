@@ -9,7 +9,7 @@ use Rattle.iris_node.specs.declared.node.Node.TheVariants as node
 use Rattle.iris_node.specs.Fields.{EntryFields}
 use Rattle.iris_node.specs.Local.{led, led_by}
 use Rattle.iris_node.specs.Trees.{Shown}
-use Rattle.iris_shape.specs.Treap.{Treap, low, high, Empty, Over}
+use Rattle.iris_shape.specs.Treap.{Treap, low, high, Empty, Over, insert}
 use Rattle.iris_shape.specs.Order.{less_name, beats}
 use Rattle.iris_cache.specs.declared.held.Short.{Short}
 use Rattle.iris_cache.specs.Resident.{Resident}
