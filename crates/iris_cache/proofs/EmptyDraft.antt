@@ -1,14 +1,13 @@
 -- A draft without a change pictures what the cache pictures.
-use Rattle.std.proofs.Common.{◌≡◌, ◌⊎◌, inl, inr, Option, Some, None, IsSome, refl, sym, ◌∙◌, ap, subst}
+use Rattle.std.proofs.Common.{◌≡◌, inl, Option, Some, None, IsSome, refl, sym, ◌∙◌, ap, subst}
 use Rattle.iris_name.specs.declared.name.Hash32.{Hash32}
 use Rattle.iris_name.specs.declared.name.Name.{Name}
 use Rattle.iris_node.specs.declared.node.Node.{Node}
-use Rattle.iris_node.specs.Trees.{Shown, IsTree, IsParent}
-use Rattle.iris_cache.specs.declared.draft.Change.{Change}
+use Rattle.iris_node.specs.Trees.{Shown, IsTree}
 use Rattle.iris_cache.specs.declared.held.Held.{Held}
-use Rattle.iris_cache.specs.Drafted.{Drafted, drafted, known, known_by, there_by, seen}
+use Rattle.iris_cache.specs.Drafted.{Drafted, drafted, known_by, there_by, seen}
 use Rattle.iris_cache.specs.Laws.{AreFormed, DraftBegins}
-use Rattle.iris_cache.specs.Pictures.{Holds, IsLike, IsSettled, IsHashOf, WasHash, IsHeldHash, Pictures, Drafts, parent_after, parent_by}
+use Rattle.iris_cache.specs.Pictures.{Holds, IsLike, WasHash, Pictures, Drafts, parent_after, parent_by}
 use Rattle.iris_cache.specs.Resident.{Resident, held_node, parent_in}
 use Rattle.iris_cache.proofs.Children.{held-child}
 
@@ -45,9 +44,9 @@ module _ (t : Shown) (d : Drafted) (c : Resident) (pic : Pictures t c) (tree : I
       let over = held-child t n m s.held_is.node x form (pic.nodes n s.held_is s.at) holds in (
         λ settled. pic.hashes n m s.held_is x s.at holds settled,
         λ k g p hk hp hg. (let up = pic.tied m p k hk hp in
-          let same : p ≡ n = tree.once m p n up over in
-          let e : g ≡ s.held_is = held_eq g s.held_is (sym hg ∙ ap (held_node c) same ∙ s.at) in
-          subst (λ (z : Held). Holds z.node m x) (sym e) holds),
+            let same : p ≡ n = tree.once m p n up over in
+            let e : g ≡ s.held_is = held_eq g s.held_is (sym hg ∙ ap (held_node c) same ∙ s.at) in
+            subst (λ (z : Held). Holds z.node m x) (sym e) holds),
       )
 
   begun : Drafts t t d c
@@ -56,7 +55,7 @@ module _ (t : Shown) (d : Drafted) (c : Resident) (pic : Pictures t c) (tree : I
     nodes = λ n node e. (let s = bare n node e in subst (IsLike (t n)) s.same (pic.nodes n s.held_is s.at));
     hashes = λ n m node x e h. was_hash n m node x (bare n node e) h;
     parents = λ n p node e over. (let s = bare n node e in let q = pic.parents n p s.held_is s.at over in
-      (over_is n ∙ ap parent_in s.at ∙ q.0, subst IsSome (sym (ap (λ o. there_by (known_by o (held_node c p))) (empty p))) (seen_there (held_node c p) q.1)));
+        (over_is n ∙ ap parent_in s.at ∙ q.0, subst IsSome (sym (ap (λ o. there_by (known_by o (held_node c p))) (empty p))) (seen_there (held_node c p) q.1)));
     tied = λ n p node e over. (let s = bare n node e in inl (pic.tied n p s.held_is s.at (sym (over_is n ∙ ap parent_in s.at) ∙ over)));
     hangs = λ n p node e below. absurd below;
     gone = λ n m e. absurd (not_gone (held_node c n) (sym (ap (λ o. known_by o (held_node c n)) (empty n)) ∙ e));

@@ -21,4 +21,3 @@ pub use laws::{
     alike_keeps, apply_keeps, apply_marks, child_was_live, draft_begins, evict_keeps, insert_keeps,
     set_hash_keeps,
 };
-

@@ -18,7 +18,6 @@ use Rattle.iris_cache.specs.declared.held.Short.TheVariants.{Need, NoMemory}
 use Rattle.iris_cache.specs.Pictures.{IsLike}
 use Rattle.iris_cache.specs.Resident.{Resident}
 use Rattle.iris_cache.specs.Drafted.{Drafted, known, seen}
-use Rattle.iris_cache.proofs.Lacking.{unknown}
 use Rattle.iris_treepaths.specs.Needs.{IsMetShort, Listed}
 use Rattle.iris_treepaths.specs.Rows.{Row, row_name, row_entry, unfolded_rows, up}
 use Rattle.iris_treepaths.specs.Ways.{Any, up_to, along_name, along_each, along_page, following}

@@ -9,10 +9,10 @@ ghost use Rattle.iris_treepaths.specs.Ways.{IsNamed, along_name};
 ghost use Rattle.iris_treepaths.specs.Needs.{IsDirectory, Listed, IsMetLack};
 ghost use Rattle.iris_dirtree.specs.Found.{entry_of_node, inside, id_found};
 
-use iris_treepaths::nodes::stands_before;
 use iris_cache::{Cache, Draft, Short};
 use iris_name::{Expect, FileId, Hash32, Name, Text};
 use iris_node::{Body, EntryNode, Link, Node};
+use iris_treepaths::nodes::stands_before;
 
 /// The entry, if a node is one.
 pub(crate) fn as_entry<'a>(node: Option<&'a Node>) -> Option<&'a EntryNode>

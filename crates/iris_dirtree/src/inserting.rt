@@ -21,18 +21,18 @@ ghost use Rattle.iris_treepaths.specs.Planted.{Planted};
 ghost use Rattle.iris_treepaths.specs.Nodes.{between, LinksTo, IsPut, OnlyEntries};
 ghost use Rattle.iris_dirtree.specs.Splits.{SeatReached, IsSplit, Splits};
 
-use iris_treepaths::recount;
 use crate::finding::longest_way;
+use iris_cache::{Cache, Draft, Short};
+use iris_mac::{Keys, priority};
+use iris_name::{FileId, Hash32, NoMemory, Text};
+use iris_node::{EntryNode, Link};
 use iris_treepaths::hashes::hash_held;
 use iris_treepaths::nodes::{
     between, copy_name, entry_at, hang, id_of, is_named, set_top, side, stands_above,
     stands_before, top_of,
 };
 use iris_treepaths::paths::{Crumb, above, climb, keep};
-use iris_cache::{Cache, Draft, Short};
-use iris_mac::{Keys, priority};
-use iris_name::{FileId, Hash32, NoMemory, Text};
-use iris_node::{EntryNode, Link};
+use iris_treepaths::recount;
 use std::alloc::Global;
 
 // The path to the seat of a new entry, and the link to what is to be split.

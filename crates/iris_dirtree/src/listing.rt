@@ -14,10 +14,10 @@ ghost use Rattle.iris_dirtree.specs.Found.{entry_of_node};
 ghost use Rattle.iris_dirtree.specs.Piles.{Tables, Piled, Piling, IsUnderShort};
 
 use crate::finding::{as_entry, entry_seen, longest_way, top_seen};
-use iris_treepaths::nodes::stands_before;
 use iris_cache::{Cache, Draft, Short};
 use iris_name::{FileId, Name, Text, Texts};
 use iris_node::{EntryNode, Link};
+use iris_treepaths::nodes::stands_before;
 use std::alloc::Global;
 
 // The entry of an id, where it is seen.

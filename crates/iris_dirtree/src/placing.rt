@@ -12,10 +12,10 @@ ghost use Rattle.iris_dirtree.specs.Turns.{IsTurn, block_found};
 ghost use Rattle.iris_dirtree.specs.Below.{RootIs, IsBelowLack};
 
 use crate::finding::{ANY_HASH, entry_seen, longest_way};
-use iris_treepaths::nodes::own_blocks;
 use iris_cache::{Cache, Draft, Short};
 use iris_name::{Expect, FileId};
 use iris_node::{Body, EntryNode, Link};
+use iris_treepaths::nodes::own_blocks;
 
 // Where a block lies, as seen from an entry: its own, or at a place of the walk under a link.
 #[derive(Clone, Copy)]

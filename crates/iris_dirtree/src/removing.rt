@@ -21,16 +21,16 @@ ghost use Rattle.iris_treepaths.specs.Planted.{Planted};
 ghost use Rattle.iris_treepaths.specs.Rows.{IsCountable, Rearranges, Row, treap_of_rows, up};
 ghost use Rattle.iris_treepaths.specs.Ways.{Any, has_name, near_name};
 
-use iris_treepaths::recount;
 use crate::finding::longest_way;
-use iris_treepaths::nodes::{
-    copy_entry, entry_at, is_named, outranks, set_top, side, stands_before, top_of,
-};
-use iris_treepaths::paths::{Crumb, above, climb, keep};
 use iris_cache::{Cache, Draft, Short};
 use iris_mac::{Keys, priority};
 use iris_name::{FileId, Name, NoMemory, Text};
 use iris_node::{EntryNode, Link, Node};
+use iris_treepaths::nodes::{
+    copy_entry, entry_at, is_named, outranks, set_top, side, stands_before, top_of,
+};
+use iris_treepaths::paths::{Crumb, above, climb, keep};
+use iris_treepaths::recount;
 use std::alloc::Global;
 
 // The row of a name, and the path to it.
@@ -144,10 +144,16 @@ fn merge_sides(
     let mut more = with_rank(keys, row.right);
     for step in 0..longest_way(draft, cache) {
         let Some(x) = less else {
-            return Ok(Merged { path, end: link_of(more) });
+            return Ok(Merged {
+                path,
+                end: link_of(more),
+            });
         };
         let Some(y) = more else {
-            return Ok(Merged { path, end: link_of(less) });
+            return Ok(Merged {
+                path,
+                end: link_of(less),
+            });
         };
         let right = outranks(x.rank, x.link.id, y.rank, y.link.id);
         let link = chosen(right, x.link, y.link);

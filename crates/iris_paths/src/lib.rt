@@ -11,4 +11,3 @@ pub use making::plan_make;
 pub use moving::plan_rename;
 pub use reading::{plan_list, plan_stat};
 pub use resolving::{Found, resolve};
-

@@ -186,12 +186,7 @@ fn copied(alloc: Global, entry: &EntryNode) -> Result<EntryNode, Short>
 }
 
 /// The entry to which a link leads. Where something else is there, want of memory is answered.
-pub fn entry_at(
-    alloc: Global,
-    draft: &Draft,
-    cache: &Cache,
-    link: Link,
-) -> Result<EntryNode, Short>
+pub fn entry_at(alloc: Global, draft: &Draft, cache: &Cache, link: Link) -> Result<EntryNode, Short>
     ensures entry { IfOk result (λ e. seen draft.now cache.now (Name.Entry link.id) ≡ Some (Node.Entry e)) }
     ensures own { IfOk result (λ e. e.id ≡ link.id) }
     ensures short { IfErr result (IsLinkLack draft.now cache.now link) }

@@ -83,12 +83,18 @@ short_of d c file s low high (Need n x) is m =
     let q = name.Part file m.level m.index in
     let L : Name → Expect → Type 0 = λ n x. LacksPart d c file low high n x in
     let none = unknown d c q m.missing in
-    subst (λ n. L n x) (sym m.named) (subst (L q) (sym m.expected) ((refl, m.covers), record {
-      unset = none.0;
-      absent = none.1;
-      needed = λ old new v pic. (tt, part_wanted old new d c file v m.level m.index m.hash pic (within_fits m.level m.index m.within)
-          (m.reached old v (under_of old new file v d c pic) (reached_top old new d c file v s pic is)) m.missing);
-    }))
+    subst (λ n. L n x) (sym m.named) (subst (L q) (sym m.expected) (
+      (refl, m.covers),
+      record {
+        unset = none.0;
+        absent = none.1;
+        needed = λ old new v pic. (
+          tt,
+          part_wanted old new d c file v m.level m.index m.hash pic (within_fits m.level m.index m.within)
+              (m.reached old v (under_of old new file v d c pic) (reached_top old new d c file v s pic is)) m.missing,
+        );
+      },
+    ))
 
 -- ---- after: parents in the table with other versions
 

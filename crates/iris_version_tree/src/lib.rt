@@ -9,4 +9,3 @@ pub mod walk;
 pub use reading::{first_written, version_at};
 pub use setting::plan_set;
 pub use walk::{file_entry, is_file};
-
