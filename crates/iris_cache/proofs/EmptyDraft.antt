@@ -1,14 +1,13 @@
 -- A draft without a change pictures what the cache pictures.
-use Rattle.std.proofs.Common.{◌≡◌, ◌⊎◌, inl, inr, Option, Some, None, IsSome, refl, sym, ◌∙◌, ap, subst}
+use Rattle.std.proofs.Common.{◌≡◌, inl, Option, Some, None, IsSome, refl, sym, ◌∙◌, ap, subst}
 use Rattle.iris_name.specs.declared.name.Hash32.{Hash32}
 use Rattle.iris_name.specs.declared.name.Name.{Name}
 use Rattle.iris_node.specs.declared.node.Node.{Node}
-use Rattle.iris_node.specs.Trees.{Shown, IsTree, IsParent}
-use Rattle.iris_cache.specs.declared.draft.Change.{Change}
+use Rattle.iris_node.specs.Trees.{Shown, IsTree}
 use Rattle.iris_cache.specs.declared.held.Held.{Held}
-use Rattle.iris_cache.specs.Drafted.{Drafted, drafted, known, known_by, there_by, seen}
+use Rattle.iris_cache.specs.Drafted.{Drafted, drafted, known_by, there_by, seen}
 use Rattle.iris_cache.specs.Laws.{AreFormed, DraftBegins}
-use Rattle.iris_cache.specs.Pictures.{Holds, IsLike, IsSettled, IsHashOf, WasHash, IsHeldHash, Pictures, Drafts, parent_after, parent_by}
+use Rattle.iris_cache.specs.Pictures.{Holds, IsLike, WasHash, Pictures, Drafts, parent_after, parent_by}
 use Rattle.iris_cache.specs.Resident.{Resident, held_node, parent_in}
 use Rattle.iris_cache.proofs.Children.{held-child}
 

@@ -1,5 +1,5 @@
 -- A new row as a row in hand.
-use Rattle.std.proofs.Common.{◌≡◌, ◌∙◌, ℕ, List, Bool, true, false, Some, None, refl, sym, ap, subst, inl}
+use Rattle.std.proofs.Common.{◌≡◌, ◌∙◌, ℕ, List, Bool, true, false, Some, None, refl, sym, ap, subst}
 use Rattle.iris_name.specs.declared.name.FileId.{FileId}
 use Rattle.iris_name.specs.declared.name.Hash32.{Hash32}
 use Rattle.iris_name.specs.declared.name.Name.{Name}

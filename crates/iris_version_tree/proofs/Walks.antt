@@ -25,7 +25,7 @@ use Rattle.iris_cache.specs.Rehash.{low_part, high_part, top_part}
 use Rattle.iris_cache.specs.Resident.{Resident}
 use Rattle.iris_cache.specs.Drafted.{Drafted, seen, known, there_by}
 use Rattle.iris_node.specs.Trees.{Shown}
-use Rattle.iris_cache.specs.Pictures.{IsSettled, IsLike, Holds, SideHolds, BodyHolds, IsHashOf}
+use Rattle.iris_cache.specs.Pictures.{IsLike, Holds, SideHolds, BodyHolds}
 use Rattle.iris_cache.proofs.Lacking.{sees_beside, unknown, wanted}
 use Rattle.iris_cache.specs.Needs.{IsWanted}
 use Rattle.iris_version_tree.specs.Versions.{Versioned, HasVersions, places}
