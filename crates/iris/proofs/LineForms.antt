@@ -7,7 +7,7 @@ use Rattle.iris_script.specs.Cuts.{IsCut, IsByteFree}
 use Rattle.iris_script.specs.Words.{IsHexOf}
 use Rattle.iris_script.proofs.Cutting.{All-IsHexOf, IsCut-same, IsHexOf-same, IsNumber-same, Lacks-decimal, Lacks-not_here}
 use Rattle.iris.specs.Lines.{AllSpell, IsRegisterNumber, IsReadLine, IsWriteLine, SpellsLine, SpellsNone, read_of, write_of}
-use Rattle.iris.specs.Lines.Spells.{Writes, Reads}
+use Rattle.iris.specs.Lines.SpellsLine.{Writes, Reads}
 
 -- no blank stands in the number of a register
 Lacks-IsPlace : (word : List ℕ) (place : ℕ) → IsRegisterNumber word place → IsByteFree word 32
