@@ -33,12 +33,12 @@ fn top(high: u64) -> Node {
     })
 }
 
-// A part of two places.
-fn low(index: u32) -> Node {
+// The part of the first two places of a file, by the file's number.
+fn low(number: u32) -> Node {
     Node::Part(PartNode {
-        file: FileId(2),
+        file: FileId(2 + u64::from(number)),
         level: 1,
-        index,
+        index: 0,
         low: Side::Fold(1),
         high: Side::Fold(2),
     })
@@ -116,8 +116,8 @@ fn stays_dirty_where_it_changed_meanwhile(rt: HostRuntime) -> Result<(), Fail> {
 // A cache of so many parts, taken in one by one.
 fn many(alloc: Global, count: u32) -> Result<Cache, Fail> {
     let mut cache = Cache::new(alloc);
-    for index in 0..count {
-        put_in(&mut cache, None, low(index))?;
+    for number in 0..count {
+        put_in(&mut cache, None, low(number))?;
     }
     Ok(cache)
 }
@@ -125,8 +125,8 @@ fn many(alloc: Global, count: u32) -> Result<Cache, Fail> {
 // A draft that sets so many parts.
 fn long_draft(alloc: Global, count: u32) -> Result<Draft, Fail> {
     let mut draft = Draft::new(alloc);
-    for index in 0..count {
-        draft.set(None, low(index))?;
+    for number in 0..count {
+        draft.set(None, low(number))?;
     }
     Ok(draft)
 }
