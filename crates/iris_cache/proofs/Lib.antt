@@ -12,3 +12,4 @@ pub mod Lacking
 pub mod EmptyDraft
 pub mod Keeping
 pub mod Settling
+pub mod SettledChildren

@@ -2,6 +2,7 @@ pub mod Held
 pub mod Resident
 pub mod Drafted
 pub mod Rehash
+pub mod Settled
 pub mod Applied
 pub mod Marked
 pub mod Pictures

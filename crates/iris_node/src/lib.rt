@@ -16,4 +16,4 @@ pub use node::{
 pub use reading::decode;
 pub use rules::is_file_name;
 pub use sheet::RECORD_MOST;
-pub use writing::{encode, encode_into, hash_of};
+pub use writing::{encode, encode_into, hash_of, node_hash};

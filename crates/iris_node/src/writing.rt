@@ -5,6 +5,7 @@ ghost use Rattle.sha2.specs.Sha256.{sha256};
 ghost use Rattle.iris_node.specs.Nodes.{IsNode, FitsLink, FitsSide, FitsBody, FitsEntry, FitsPart};
 ghost use Rattle.iris_node.specs.Rules.{IsEntry, IsPart};
 ghost use Rattle.iris_node.specs.Spelling.{link, spelled_side, kind_byte, body, entry_format, part_format, spelled_entry, part, spelling};
+ghost use Rattle.iris_node.specs.Unfolded.{hash};
 
 use crate::node::{Body, EntryNode, Link, Node, PartNode, Side};
 use crate::reading::{FORMAT, PART};
@@ -157,4 +158,11 @@ pub fn hash_of(bytes: &[u8]) -> Hash32
     ensures { result.0 ≡ sha256 bytes.now }
 {
     Hash32(Sha256::digest(bytes))
+}
+
+/// The hash of a node's record, as its parent holds it.
+pub fn node_hash(node: &Node) -> Hash32
+    ensures { result ≡ hash node.now }
+{
+    hash_of(written(node).as_slice())
 }

@@ -157,6 +157,17 @@ fn a_cut_of_zeros_gives_a_version(rt: HostRuntime) -> Result<(), Fail> {
             "root",
             "digest 84ca1a2aa8ae8b74fde5e41061bf909a97fa1b7bc5c2ae627ca8392eb1cc2982",
         ),
+        ("create /y", "done"),
+        ("write /y 0 00*5000", "done"),
+        ("resize /y 4500", "done"),
+        ("probe 4", "probed 5 0 1"),
+        ("probe 5", "probed 5 1 2"),
+        ("create /z", "done"),
+        ("write /z 0 00*5000", "done"),
+        ("resize /z 9000", "done"),
+        ("probe 6", "probed 6 0 1"),
+        ("probe 7", "probed 6 1 1"),
+        ("probe 8", "probed 6 2 0"),
     ];
     assert_eq!(rt; table_differs(rt.alloc(), &rows)?, None);
     Ok(())

@@ -3,12 +3,14 @@
 ghost use Rattle.std.specs.Prelude.{◌≤◌, ◌<◌};
 
 use crate::dice::Dice;
-use crate::filling::{ENTRY, cache_of, is_recorded, record_of, set, side_in};
-use crate::keeping::{let_go, parts_at, settle_parts};
+use crate::fetching::record_of;
+use crate::filling::{ENTRY, cache_of, file_in, set, side_in};
+use crate::keeping::{are_recorded, let_some_go, settle_all};
+use crate::planning::text;
 use iris_cache::Cache;
 use iris_mac::Keys;
-use iris_name::{Bytes, Name, Reply, Request, Text};
-use iris_node::{Body, Node, Side, decode};
+use iris_name::{Bytes, Name, Reply, Request};
+use iris_node::{Side, decode};
 use iris_table::Table;
 use std::alloc::Global;
 use std::test::Fail;
@@ -16,16 +18,12 @@ use std::test::Fail;
 // How many places the file has.
 const LENGTH: u32 = 6000;
 
-fn path(alloc: Global) -> Result<Text, Fail> {
-    Ok(Text::of("/a".to_string(alloc)?))
-}
-
 // Writes so many places from one on.
 fn write(alloc: Global, table: &mut Table, place: u32, count: u32) -> Result<(), Fail> {
     let mut bytes = Vec::new(alloc);
     bytes.resize(count as usize * 4096, 7)?;
     let request = Request::Write {
-        path: path(alloc)?,
+        path: text(alloc, "/a")?,
         offset: place as u64 * 4096,
         bytes: Bytes::of(bytes),
     };
@@ -37,7 +35,7 @@ fn write(alloc: Global, table: &mut Table, place: u32, count: u32) -> Result<(),
 
 fn resize(alloc: Global, table: &mut Table, places: u32) -> Result<(), Fail> {
     let request = Request::Resize {
-        path: path(alloc)?,
+        path: text(alloc, "/a")?,
         length: places as u64 * 4096,
     };
     match table.step(alloc, &request)? {
@@ -47,45 +45,16 @@ fn resize(alloc: Global, table: &mut Table, places: u32) -> Result<(), Fail> {
 }
 
 // The counter of writes, and the side of all versions, in the file's record.
-fn file_in(alloc: Global, records: &[(Name, Bytes)]) -> Result<(u64, Side), Fail> {
+fn recorded_file(alloc: Global, records: &[(Name, Bytes)]) -> Result<(u64, Side), Fail> {
     let record = record_of(records, &ENTRY).ok_or("the entry")?;
-    match decode(alloc, record)?.ok_or("a node")? {
-        Node::Entry(entry) => match entry.body {
-            Body::File {
-                counter,
-                versions,
-                ..
-            } => Ok((counter, versions)),
-            Body::Dir { .. } => Err("a directory".into()),
-        },
-        Node::Part(_) => Err("a part".into()),
-    }
+    let node = decode(alloc, record)?.ok_or("a node")?;
+    Ok(file_in(&node).ok_or("a file")?)
 }
 
 // Whether each resident part has the record that the table has, and the entry the side.
 fn agrees(alloc: Global, cache: &Cache, records: &[(Name, Bytes)]) -> Result<bool, Fail> {
-    for i in 0..cache.count() {
-        let (name, held) = cache.at(i);
-        if *name != ENTRY && !is_recorded(alloc, records, name, &held.node)? {
-            return Ok(false);
-        }
-    }
-    let (_, side) = file_in(alloc, records)?;
-    Ok(side_in(cache) == Some(side))
-}
-
-// Lets about a half of the parts go that nothing keeps, leaves first. Tells how many went.
-fn forget(alloc: Global, cache: &mut Cache, dice: &mut Dice) -> Result<u64, Fail> {
-    let mut gone = 0u64;
-    for level in 1..17u8 {
-        let names = parts_at(alloc, cache, level)?;
-        for name in names.as_slice() {
-            if dice.roll(2) == 0 && let_go(cache, name) {
-                gone = gone.saturating_add(1);
-            }
-        }
-    }
-    Ok(gone)
+    let (_, side) = recorded_file(alloc, records)?;
+    Ok(side_in(cache) == Some(side) && are_recorded(alloc, cache, records, Some(ENTRY))?)
 }
 
 // A range of places near one of a few.
@@ -116,7 +85,7 @@ fn change(
     }
     write(alloc, table, low, high - low)?;
     let records = table.records_of(alloc, &keys)?;
-    let (version, _) = file_in(alloc, records.as_slice())?;
+    let (version, _) = recorded_file(alloc, records.as_slice())?;
     set(alloc, cache, before, low, high, version)?;
     Ok(records)
 }
@@ -127,17 +96,17 @@ fn plans_as_the_table_writes(rt: HostRuntime) -> Result<(), Fail> {
     let alloc = rt.alloc();
     let keys = Keys::of(&[0; 32]);
     let mut table = Table::new(alloc, &keys)?;
-    table.step(alloc, &Request::Create { path: path(alloc)? })?;
+    table.step(alloc, &Request::Create { path: text(alloc, "/a")? })?;
     resize(alloc, &mut table, LENGTH)?;
     let mut records = table.records_of(alloc, &keys)?;
     let mut cache = cache_of(alloc, records.as_slice())?;
     let mut dice = Dice::of(1);
-    let mut gone = 0u64;
+    let mut gone = 0u32;
     for round in 0..60u32 {
         records = change(alloc, &mut table, &mut cache, &mut dice, records.as_slice())?;
-        settle_parts(alloc, &mut cache)?;
+        settle_all(alloc, &mut cache)?;
         assert!(rt; agrees(alloc, &cache, records.as_slice())?, "round {round}");
-        gone = gone.saturating_add(forget(alloc, &mut cache, &mut dice)?);
+        gone = gone.saturating_add(let_some_go(alloc, &mut cache, &mut dice)?);
     }
     assert!(rt; gone > 300, "{gone} went");
     Ok(())

@@ -1,6 +1,6 @@
 //! Paths are made and moved over a cache, with ample memory.
 
-use crate::entries::settle_all;
+use crate::keeping::settle_all;
 use crate::planning::{fresh, listed, make, rename, told};
 use iris_cache::Cache;
 use iris_name::{Bytes, FileId, Name, PlainError, Reply};

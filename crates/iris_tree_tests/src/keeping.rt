@@ -1,8 +1,10 @@
-//! Nodes are settled from the leaves up, cleaned, and let go.
+//! Nodes are settled from the leaves up, cleaned, compared with their records, and let go.
 
-use crate::settling::settle;
+use crate::dice::Dice;
+use crate::fetching::record_of;
 use iris_cache::Cache;
-use iris_name::Name;
+use iris_name::{Bytes, Name};
+use iris_node::{Node, encode};
 use std::alloc::Global;
 use std::test::Fail;
 
@@ -24,57 +26,79 @@ pub(crate) fn take_back(cache: &mut Cache, name: &Name) -> Result<(), Fail> {
     Ok(())
 }
 
-// What goes out for a node comes back, and leaves it clean.
-fn clean(cache: &mut Cache, name: &Name) -> Result<(), Fail> {
-    send_out(cache, name)?;
-    take_back(cache, name)
-}
-
-// Settles a node, and cleans it.
-pub(crate) fn settle_clean(alloc: Global, cache: &mut Cache, name: &Name) -> Result<(), Fail> {
-    if !settle(alloc, cache, name)? {
-        return Err("it can't be settled".into());
-    }
-    clean(cache, name)
-}
-
-// The resident parts of a level.
-pub(crate) fn parts_at(alloc: Global, cache: &Cache, level: u8) -> Result<Vec<Name>, Fail> {
+// The names of all that is resident, or of what isn't settled.
+fn names_in(alloc: Global, cache: &Cache, loose: bool) -> Result<Vec<Name>, Fail> {
     let mut names = Vec::new(alloc);
     for i in 0..cache.count() {
-        let (name, _) = cache.at(i);
-        match name {
-            Name::Part { level: at, .. } if *at == level => names.push(*name)?,
-            _ => {}
+        let (name, held) = cache.at(i);
+        if !loose || !held.settled {
+            names.push(*name)?;
         }
     }
     Ok(names)
 }
 
-fn is_settled(cache: &Cache, name: &Name) -> bool {
-    match cache.find(name) {
-        Some(held) => held.settled,
-        None => true,
-    }
-}
-
-// Settles all parts, from the leaves up.
-pub(crate) fn settle_parts(alloc: Global, cache: &mut Cache) -> Result<(), Fail> {
-    for level in 1..17u8 {
-        let names = parts_at(alloc, cache, level)?;
-        for name in names.as_slice() {
-            if !is_settled(cache, name) {
-                settle_clean(alloc, cache, name)?;
-            }
+// Settles those whose children are settled; what goes out for them comes back, and leaves them clean. Tells whether there were any
+// to settle.
+fn settle_lowest(alloc: Global, cache: &mut Cache) -> Result<bool, Fail> {
+    let names = names_in(alloc, cache, true)?;
+    for name in names.as_slice() {
+        if cache.settle(name) {
+            send_out(cache, name)?;
+            take_back(cache, name)?;
         }
     }
-    Ok(())
+    Ok(!names.is_empty())
 }
 
-// Lets a node go, where nothing keeps it. Tells whether it went.
-pub(crate) fn let_go(cache: &mut Cache, name: &Name) -> bool {
-    match cache.find(name) {
-        Some(_) => cache.evict(name).is_ok(),
-        None => false,
+// Settles all nodes, from the leaves up.
+pub(crate) fn settle_all(alloc: Global, cache: &mut Cache) -> Result<(), Fail> {
+    for _ in 0..1000 {
+        if !settle_lowest(alloc, cache)? {
+            return Ok(());
+        }
     }
+    Err("it goes on settling".into())
+}
+
+// Whether a node's record stands among these.
+fn is_recorded(
+    alloc: Global,
+    records: &[(Name, Bytes)],
+    name: &Name,
+    node: &Node,
+) -> Result<bool, Fail> {
+    let own = encode(alloc, node)?;
+    match record_of(records, name) {
+        Some(record) => Ok(record == own.as_slice()),
+        None => Ok(false),
+    }
+}
+
+// Whether each resident node but one has its record among these.
+pub(crate) fn are_recorded(
+    alloc: Global,
+    cache: &Cache,
+    records: &[(Name, Bytes)],
+    but: Option<Name>,
+) -> Result<bool, Fail> {
+    for i in 0..cache.count() {
+        let (name, held) = cache.at(i);
+        if Some(*name) != but && !is_recorded(alloc, records, name, &held.node)? {
+            return Ok(false);
+        }
+    }
+    Ok(true)
+}
+
+// Lets about a half of the nodes go that nothing keeps. Tells how many went.
+pub(crate) fn let_some_go(alloc: Global, cache: &mut Cache, dice: &mut Dice) -> Result<u32, Fail> {
+    let mut gone = 0u32;
+    let names = names_in(alloc, cache, false)?;
+    for name in names.as_slice() {
+        if dice.roll(2) == 0 && cache.find(name).is_some() && cache.evict(name).is_ok() {
+            gone = gone.saturating_add(1);
+        }
+    }
+    Ok(gone)
 }

@@ -1,4 +1,4 @@
-//! Plans over a cache, also beside the table of rows: tests, and how a node is settled in them.
+//! Tests of plans over a cache, also beside the table of rows. No code but tests.
 #![tactic(auto)]
 
 #[cfg(test)]
@@ -6,13 +6,11 @@ mod beside;
 #[cfg(test)]
 mod crowds;
 #[cfg(test)]
-mod cuts;
-#[cfg(test)]
 mod dice;
 #[cfg(test)]
 mod directories;
 #[cfg(test)]
-mod entries;
+mod fetching;
 #[cfg(test)]
 mod filling;
 #[cfg(test)]
@@ -23,6 +21,5 @@ mod marking;
 mod paths_beside;
 #[cfg(test)]
 mod planning;
-pub mod settling;
 #[cfg(test)]
 mod versions;

@@ -1,9 +1,8 @@
 //! What a draft sets in a cache, what is out meanwhile, and many names at once.
 
-use crate::filling::put_in;
+use crate::fetching::put_in;
 use crate::keeping::{send_out, take_back};
 use crate::planning::land;
-use crate::settling::settle;
 use iris_cache::{Cache, Draft};
 use iris_name::{FileId, Hash32, Name};
 use iris_node::{Node, PartNode, Side};
@@ -81,7 +80,7 @@ fn change(alloc: Global, cache: &mut Cache, high: u64) -> Result<(), Fail> {
 // Gives the part another version, and settles it.
 fn change_settled(alloc: Global, cache: &mut Cache, high: u64) -> Result<(), Fail> {
     change(alloc, cache, high)?;
-    if !settle(alloc, cache, &TOP)? {
+    if !cache.settle(&TOP) {
         return Err("it can't be settled".into());
     }
     Ok(())

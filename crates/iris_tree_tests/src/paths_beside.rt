@@ -1,7 +1,8 @@
 //! Paths over a cache beside a table, with names evicted at will.
 
 use crate::dice::Dice;
-use crate::entries::{are_recorded, fetch_entry, let_some_go, settle_all};
+use crate::fetching::fetch;
+use crate::keeping::{are_recorded, let_some_go, settle_all};
 use crate::planning::land;
 use iris_cache::{Cache, Draft, Short};
 use iris_dirtree::plan_place;
@@ -261,7 +262,7 @@ fn reply(alloc: Global, beside: &mut Beside, request: &Request) -> Result<Reply,
             }
             Tried::Lacks(name, hash) => {
                 let records = beside.records.as_slice();
-                fetch_entry(alloc, &mut beside.cache, records, &name, hash)?;
+                fetch(alloc, &mut beside.cache, records, &name, hash)?;
                 beside.fetched = beside.fetched.saturating_add(1);
             }
         }
@@ -274,7 +275,7 @@ fn compare(alloc: Global, beside: &mut Beside) -> Result<(), Fail> {
     beside.done = beside.done.saturating_add(1);
     beside.records = beside.table.records_of(alloc, &beside.keys)?;
     settle_all(alloc, &mut beside.cache)?;
-    if !are_recorded(alloc, &beside.cache, beside.records.as_slice())? {
+    if !are_recorded(alloc, &beside.cache, beside.records.as_slice(), None)? {
         return Err("another record".into());
     }
     Ok(())

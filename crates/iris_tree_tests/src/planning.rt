@@ -1,6 +1,6 @@
 //! Plans on paths over a cache that the tests fill themselves.
 
-use crate::filling::put_in;
+use crate::fetching::put_in;
 use iris_cache::{Cache, Draft};
 use iris_mac::Keys;
 use iris_name::{FileId, Path, PlainError, Reply, Text};

@@ -3,7 +3,8 @@
 ghost use Rattle.std.specs.Prelude.{◌<◌, ◌≤◌};
 ghost use Rattle.iris_version_tree.specs.Versions.{places};
 
-use crate::filling::{FILE, side_in, take_in};
+use crate::fetching::take_in;
+use crate::filling::{FILE, side_in};
 use crate::planning::land;
 use iris_cache::{Cache, Draft};
 use iris_name::Name;
