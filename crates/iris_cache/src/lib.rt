@@ -12,7 +12,7 @@ pub mod marks;
 pub mod parents;
 pub mod places;
 pub mod rehash;
-pub mod settling;
+pub mod settle;
 pub mod ties;
 
 pub use cache::Cache;

@@ -96,7 +96,12 @@ fn plans_as_the_table_writes(rt: HostRuntime) -> Result<(), Fail> {
     let alloc = rt.alloc();
     let keys = Keys::of(&[0; 32]);
     let mut table = Table::new(alloc, &keys)?;
-    table.step(alloc, &Request::Create { path: text(alloc, "/a")? })?;
+    table.step(
+        alloc,
+        &Request::Create {
+            path: text(alloc, "/a")?,
+        },
+    )?;
     resize(alloc, &mut table, LENGTH)?;
     let mut records = table.records_of(alloc, &keys)?;
     let mut cache = cache_of(alloc, records.as_slice())?;
