@@ -57,6 +57,15 @@ fn agrees(alloc: Global, cache: &Cache, records: &[(Name, Bytes)]) -> Result<boo
     Ok(side_in(cache) == Some(side) && are_recorded(alloc, cache, records, Some(ENTRY))?)
 }
 
+// Lets parts go, and some of those above them. Tells how many went.
+fn forget(alloc: Global, cache: &mut Cache, dice: &mut Dice) -> Result<u32, Fail> {
+    let mut gone = 0u32;
+    for _ in 0..3 {
+        gone = gone.saturating_add(let_some_go(alloc, cache, dice)?);
+    }
+    Ok(gone)
+}
+
 // A range of places near one of a few.
 fn range(dice: &mut Dice) -> (u32, u32)
     ensures some { result.0 < result.1 }
@@ -111,7 +120,7 @@ fn plans_as_the_table_writes(rt: HostRuntime) -> Result<(), Fail> {
         records = change(alloc, &mut table, &mut cache, &mut dice, records.as_slice())?;
         settle_all(alloc, &mut cache)?;
         assert!(rt; agrees(alloc, &cache, records.as_slice())?, "round {round}");
-        gone = gone.saturating_add(let_some_go(alloc, &mut cache, &mut dice)?);
+        gone = gone.saturating_add(forget(alloc, &mut cache, &mut dice)?);
     }
     assert!(rt; gone > 300, "{gone} went");
     Ok(())
