@@ -14,3 +14,5 @@ pub mod Counts
 mod ExamplesOfCrowding
 mod ExamplesOfWaits
 mod ExamplesOfBad
+pub mod Steady
+pub mod NoteStatus

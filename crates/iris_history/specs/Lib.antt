@@ -6,3 +6,4 @@ pub mod Crowding
 pub mod Values
 pub mod Legal
 pub mod Laws
+pub mod StatusLaws

@@ -5,6 +5,7 @@
 #![tactic(auto)]
 
 pub mod law;
+pub mod status_law;
 
 ghost use Rattle.iris_history.specs.Kept.{Kept};
 ghost use Rattle.iris_history.specs.Legal.{Rules};

@@ -1,0 +1,3 @@
+pub mod OneBlock
+pub mod FileRecords
+pub mod Fresh

@@ -1,0 +1,4 @@
+pub mod FileTable
+pub mod Reach
+pub mod Rules
+pub mod Laws

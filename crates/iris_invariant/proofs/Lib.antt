@@ -1,0 +1,15 @@
+pub mod Names
+pub mod Begins
+pub mod Ends
+pub mod Events
+pub mod Readings
+pub mod Facts
+pub mod Saves
+pub mod Cache
+pub mod Toy
+pub mod Supply
+pub mod Desks
+pub mod Drafts
+pub mod Homes
+pub mod DeskLists
+pub mod Evidence

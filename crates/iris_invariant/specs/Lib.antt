@@ -1,0 +1,10 @@
+pub mod Agrees
+pub mod Events
+pub mod Readings
+pub mod Saves
+pub mod Cells
+pub mod Toy
+pub mod Desks
+pub mod Homes
+pub mod DeskLists
+pub mod Evidence

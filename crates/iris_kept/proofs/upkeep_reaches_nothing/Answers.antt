@@ -1,4 +1,0 @@
-use Rattle.iris_kept.proofs.upkeep_reaches_nothing.Goals as goal
-
-pub returns : goal.returns
-returns c = λ keys past n. (λ h. h, λ h. h)
