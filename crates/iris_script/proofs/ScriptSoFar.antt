@@ -1,10 +1,11 @@
 -- Lines of a script that were read, and the rest of the script.
-use Rattle.std.proofs.Common.{◌≡◌, ℕ, ◌+◌, ◌<◌, ◌≤◌, List, [], ◌∷◌, ◌++◌, length, map, refl, sym, ap, ◌∙◌, subst, arith, append_assoc, inl, inr}
+use Rattle.std.proofs.Common.{◌≡◌, ℕ, ◌+◌, ◌<◌, ◌≤◌, Bool, true, List, [], ◌∷◌, ◌++◌, length, map, refl, sym, ap, ◌∙◌, subst, arith, append_assoc, inl, inr}
+use Rattle.std.specs.Prelude.{Result, Ok, Err, IfErr}
 use Rattle.std.specs.Str.Lines.{strip_carriage_return}
 use Rattle.std.proofs.lemmas.List.{append-nil, length-append}
 use Rattle.iris_name.specs.declared.request.Request.{Request}
 use Rattle.iris_script.specs.Cuts.{lines_of}
-use Rattle.iris_script.specs.Script.{AllAsk, IsCallLine, IsScriptFault, IsFaultOf, IsFirst, IsNoRequest, IsSkipped, NamesFarClient, script_lines}
+use Rattle.iris_script.specs.Script.{AllAsk, AreServed, IsCallLine, IsScriptFault, IsServiceFault, IsFaultOf, IsFirst, IsRefused, IsSkipped, NamesFarClient, script_lines}
 use Rattle.iris_script.specs.declared.script.ScriptError.{ScriptError}
 use Rattle.iris_script.specs.declared.script.ScriptError.TheVariants.{NotRequest, Client, NoMemory}
 
@@ -97,9 +98,32 @@ so_far_all script [] number calls h empty =
 so_far_all script (b ∷ rest) number calls h empty = absurd (omega arith)
 
 -- the first line of the rest isn't read, for this reason
-pub so_far_fault : (script rest line next : List ℕ) (number : ℕ) (calls : List (ℕ × Request)) (e : ScriptError)
-    → IsSoFar script rest number calls → lines_of rest ≡ line ∷ lines_of next
-    → IsFaultOf (strip_carriage_return line) (number + 1) e → IsScriptFault (script_lines script) e
-so_far_fault script rest line next number calls (NotRequest n) h first fault = so_far_bad IsNoRequest script rest line next number n calls h first fault.0 fault.1
-so_far_fault script rest line next number calls (Client n) h first fault = so_far_bad NamesFarClient script rest line next number n calls h first fault.0 fault.1
-so_far_fault script rest line next number calls NoMemory h first fault = tt
+pub so_far_fault : (serves : Request → Bool) (script rest line next : List ℕ) (number : ℕ) (calls : List (ℕ × Request)) (e : ScriptError)
+    → IsSoFar script rest number calls → AreServed serves calls → lines_of rest ≡ line ∷ lines_of next
+    → IsFaultOf serves (strip_carriage_return line) (number + 1) e → IsServiceFault serves (script_lines script) e
+unfolding so_far_bad
+so_far_fault serves script rest line next number calls (NotRequest n) h served first fault =
+    record { first = so_far_bad (IsRefused serves) script rest line next number n calls h first fault.0 fault.1; served = served }
+so_far_fault serves script rest line next number calls (Client n) h served first fault =
+    record { first = so_far_bad NamesFarClient script rest line next number n calls h first fault.0 fault.1; served = served }
+so_far_fault serves script rest line next number calls NoMemory h served first fault = tt
+
+-- where every request is served, a line that is refused is no request
+pub all_served : (lines : List (List ℕ)) (e : ScriptError) → IsServiceFault (λ request. true) lines e → IsScriptFault lines e
+all_served lines (NotRequest n) f = let g = f.first in record {
+  before = g.before;
+  line = g.line;
+  after = g.after;
+  calls = g.calls;
+  whole = g.whole;
+  place = g.place;
+  fine = g.fine;
+  bad = elim g.bad [ inl none ↦ none | inr asks ↦ absurd (let z = asks.3 in cc) ];
+}
+all_served lines (Client n) f = f.first
+all_served lines NoMemory f = tt
+
+pub all_served_or : {A : Type 0} (lines : List (List ℕ)) (r : Result A ScriptError)
+    → IfErr r (IsServiceFault (λ request. true) lines) → IfErr r (IsScriptFault lines)
+all_served_or lines (Ok x) f = f
+all_served_or lines (Err e) f = all_served lines e f

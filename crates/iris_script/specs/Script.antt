@@ -1,5 +1,6 @@
 -- A script: which client asks what on a line, and which line is the first that can't be served.
-use Rattle.std.specs.Prelude.{◌≡◌, ◌⊎◌, ℕ, ◌+◌, ◌<◌, ◌≤◌, List, [], ◌∷◌, ◌++◌, length, map, codes}
+use Rattle.std.specs.Prelude.{◌≡◌, ◌⊎◌, ℕ, ◌+◌, ◌<◌, ◌≤◌, Bool, true, false, List, [], ◌∷◌, ◌++◌, length, map, codes}
+use Rattle.std.specs.List.{All}
 use Rattle.std.specs.Str.Lines.{strip_carriage_return}
 use Rattle.iris_name.specs.declared.request.Request.{Request}
 use Rattle.iris_name.specs.declared.request.Request.TheVariants as request
@@ -88,14 +89,37 @@ pub record IsFirst (IsBad : List ℕ → Type 0) (lines : List (List ℕ)) (n : 
   pub fine : AllAsk before calls
   pub bad : IsBad line
 
--- why the line of this number isn't read, or want of memory
-abbrev pub IsFaultOf : List ℕ → ℕ → ScriptError → Type 0
-IsFaultOf line number (NotRequest n) = (n ≡ number) × IsNoRequest line
-IsFaultOf line number (Client n) = (n ≡ number) × NamesFarClient line
-IsFaultOf line number NoMemory = Unit {0}
-
 -- why a script isn't read: its first line that is no request or names a client above 16, or want of memory
 abbrev pub IsScriptFault : List (List ℕ) → ScriptError → Type 0
 IsScriptFault lines (NotRequest n) = IsFirst IsNoRequest lines n
 IsScriptFault lines (Client n) = IsFirst NamesFarClient lines n
 IsScriptFault lines NoMemory = Unit {0}
+
+-- all of these calls are served
+abbrev pub AreServed : (Request → Bool) → List (ℕ × Request) → Type 0
+AreServed serves calls = All (λ call. serves call.1 ≡ true) calls
+
+-- the line asks something that isn't served, whichever client is named
+abbrev pub AsksUnserved : (Request → Bool) → List ℕ → Type 0
+AsksUnserved serves line = (client : ℕ) × (request : Request) × LineAsks line client request × (serves request ≡ false)
+
+-- the line asks nothing that is served
+abbrev pub IsRefused : (Request → Bool) → List ℕ → Type 0
+IsRefused serves line = IsNoRequest line ⊎ AsksUnserved serves line
+
+-- the n-th line, counted from 1, is bad, and each before it is skipped or a call that is served
+pub record IsFirstServed (serves : Request → Bool) (IsBad : List ℕ → Type 0) (lines : List (List ℕ)) (n : ℕ) : Type 0 where
+  pub first : IsFirst IsBad lines n
+  pub served : AreServed serves first.calls
+
+-- why the line of this number isn't read where not every request is served, or want of memory
+abbrev pub IsFaultOf : (Request → Bool) → List ℕ → ℕ → ScriptError → Type 0
+IsFaultOf serves line number (NotRequest n) = (n ≡ number) × IsRefused serves line
+IsFaultOf serves line number (Client n) = (n ≡ number) × NamesFarClient line
+IsFaultOf serves line number NoMemory = Unit {0}
+
+-- why a script isn't read where not every request is served: its first line that asks nothing served or names a client above 16
+abbrev pub IsServiceFault : (Request → Bool) → List (List ℕ) → ScriptError → Type 0
+IsServiceFault serves lines (NotRequest n) = IsFirstServed serves (IsRefused serves) lines n
+IsServiceFault serves lines (Client n) = IsFirstServed serves NamesFarClient lines n
+IsServiceFault serves lines NoMemory = Unit {0}

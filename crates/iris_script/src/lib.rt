@@ -15,4 +15,4 @@ pub use digits::{read_bytes, read_hex};
 pub use number::read_number;
 pub use path::read_path;
 pub use reply::{append_reply, print_reply};
-pub use script::{Script, ScriptError, read_script};
+pub use script::{Everything, Script, ScriptError, Service, read_script, read_script_for};

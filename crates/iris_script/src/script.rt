@@ -1,9 +1,9 @@
 //! Scripts: who asks what, line by line.
 
-ghost use Rattle.std.specs.Prelude.{◌≡◌, ℕ, ◌≤◌, ◌↔◌, IsTrue, IfOk, IfErr, IfSome, IfNone, map};
-ghost use Rattle.iris_name.specs.declared.request.Request.{Request};
+ghost use Rattle.std.specs.Prelude.{◌≡◌, ℕ, ◌≤◌, ◌↔◌, Bool, true, IsTrue, IfOk, IfErr, IfSome, IfNone, map};
+ghost use Rattle.iris_name.specs.declared.request.Request.{Request as SpecRequest};
 ghost use Rattle.iris_script.specs.Words.{IsNumber};
-ghost use Rattle.iris_script.specs.Script.{AllAsk, IsCallLine, IsScriptFault, IsFaultOf, IsSkipped, LineAsks, LineAsksNothing, WordsAsk, script_lines};
+ghost use Rattle.iris_script.specs.Script.{AllAsk, AreServed, IsCallLine, IsScriptFault, IsServiceFault, IsFaultOf, IsSkipped, LineAsks, LineAsksNothing, WordsAsk, script_lines};
 
 use crate::cut::{first_line, split_words, strip_return};
 use crate::number::read_number;
@@ -44,6 +44,29 @@ impl Script {
         ensures { result.items ≡ self }
     {
         self.calls
+    }
+}
+
+/// Which requests a program serves.
+pub trait Service {
+    ghost use Rattle.std.specs.Prelude.{◌≡◌, Bool};
+
+    ghost serves: { SpecRequest → Bool };
+
+    /// Whether it serves this one.
+    fn is_served(request: &Request) -> bool
+        ensures { result ≡ serves request.now };
+}
+
+/// Every request is served.
+#[derive(Clone, Copy, Debug)]
+pub struct Everything;
+
+impl Service for Everything {
+    ghost serves = { λ _. true };
+
+    fn is_served(_request: &Request) -> bool {
+        true
     }
 }
 
@@ -99,7 +122,7 @@ fn read_client(word: &[u8]) -> Option<u64>
 fn read_words(alloc: Global, words: &[&[u8]]) -> Result<Option<(u64, Request)>, NoMemory>
     ensures some { IfOk result (λ read. IfSome read (λ call.
         WordsAsk (map (λ word. word.now) words.now) call.0 call.1)) }
-    ensures none { IfOk result (λ read. IfNone read ((client : ℕ) (request : Request) →
+    ensures none { IfOk result (λ read. IfNone read ((client : ℕ) (request : SpecRequest) →
         WordsAsk (map (λ word. word.now) words.now) client request → ⊥)) }
 {
     let [word, rest @ ..] = words else {
@@ -124,14 +147,22 @@ fn read_line(alloc: Global, line: &[u8]) -> Result<Option<(u64, Request)>, NoMem
 }
 
 /// Reads the line of this number, which isn't skipped.
-fn read_call(alloc: Global, line: &[u8], number: u64) -> Result<(u32, Request), ScriptError>
+fn read_call<S: Service>(
+    alloc: Global,
+    line: &[u8],
+    number: u64,
+) -> Result<(u32, Request), ScriptError>
     requires { IsSkipped line.now → ⊥ }
     ensures ok { IfOk result (IsCallLine line.now) }
-    ensures err { IfErr result (IsFaultOf line.now number) }
+    ensures served { IfOk result (λ call. S.serves call.1 ≡ true) }
+    ensures err { IfErr result (IsFaultOf S.serves line.now number) }
 {
     match read_line(alloc, line)? {
         None => Err(ScriptError::NotRequest { line: number }),
         Some((client, request)) => {
+            if !S::is_served(&request) {
+                return Err(ScriptError::NotRequest { line: number });
+            }
             if client > MAX_CLIENT {
                 return Err(ScriptError::Client { line: number });
             }
@@ -140,11 +171,21 @@ fn read_call(alloc: Global, line: &[u8], number: u64) -> Result<(u32, Request), 
     }
 }
 
-/// Reads a script. Lines without bytes and lines that begin with `#` are skipped but counted, and one carriage
-/// return at the end of a line is dropped.
+/// Reads a script of which every request is served. Lines without bytes and lines that begin with `#` are skipped but
+/// counted, and one carriage return at the end of a line is dropped.
 pub fn read_script(alloc: Global, bytes: &[u8]) -> Result<Script, ScriptError>
     ensures ok { IfOk result (AllAsk (script_lines bytes.now)) }
     ensures err { IfErr result (IsScriptFault (script_lines bytes.now)) }
+{
+    read_script_for::<Everything>(alloc, bytes)
+}
+
+/// Reads a script as `read_script` does. A line that asks something that isn't served is `NotRequest` too, also where it
+/// names a client above 16.
+pub fn read_script_for<S: Service>(alloc: Global, bytes: &[u8]) -> Result<Script, ScriptError>
+    ensures ok { IfOk result (AllAsk (script_lines bytes.now)) }
+    ensures served { IfOk result (AreServed S.serves) }
+    ensures err { IfErr result (IsServiceFault S.serves (script_lines bytes.now)) }
 {
     let mut calls = Vec::new(alloc);
     let mut number: u64 = 0;
@@ -157,7 +198,7 @@ pub fn read_script(alloc: Global, bytes: &[u8]) -> Result<Script, ScriptError>
         if is_skipped(line) {
             continue;
         }
-        let call = read_call(alloc, line, number)?;
+        let call = read_call::<S>(alloc, line, number)?;
         calls.push(call)?;
     }
     Ok(Script { calls })

@@ -1,7 +1,7 @@
 //! Scripts, line by line.
 
 use iris_name::Request;
-use iris_script::{ScriptError, read_script};
+use iris_script::{ScriptError, Service, read_script, read_script_for};
 use std::alloc::Global;
 use std::test::Fail;
 
@@ -171,6 +171,38 @@ fn tells_the_first_fault(rt: HostRuntime) {
     for (script, want) in table {
         assert!(rt;
             read_script(rt.alloc(), script).err() == Some(want),
+            "{script:?}"
+        );
+    }
+}
+
+// No request is served.
+struct Nothing;
+
+impl Service for Nothing {
+    ghost use Rattle.std.specs.Prelude.{◌≡◌, false};
+
+    ghost serves = { λ _. false };
+
+    fn is_served(_request: &Request) -> bool {
+        false
+    }
+}
+
+// A request that is served though none is, or a client above 16 that is told before.
+#[test]
+fn tells_the_first_unserved_line(rt: HostRuntime) {
+    let table = [
+        (b"".as_slice(), None),
+        (b"#\r\n\n".as_slice(), None),
+        (b"#\n\n1 sync\nx".as_slice(), Some(3)),
+        (b"x\n1 sync".as_slice(), Some(1)),
+        (b"17 sync".as_slice(), Some(1)),
+    ];
+    for (script, line) in table {
+        let want = line.map(|line| ScriptError::NotRequest { line });
+        assert!(rt;
+            read_script_for::<Nothing>(rt.alloc(), script).err() == want,
             "{script:?}"
         );
     }
