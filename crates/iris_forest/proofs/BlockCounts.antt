@@ -1,9 +1,9 @@
 -- The counts that a table shows have 64 bits, also with rows in hand.
-use Rattle.std.proofs.Common.{◌≡◌, ◌⊎◌, inl, inr, ℕ, ◌+◌, ◌-◌, ◌*◌, ◌<◌, ◌≤◌, ◌^◌, List, [], Option, Some, None, refl, ap, arith}
+use Rattle.std.proofs.Common.{◌≡◌, ◌⊎◌, inl, inr, ℕ, ◌+◌, ◌-◌, ◌*◌, ◌<◌, ◌≤◌, ◌^◌, List, [], Some, None, refl, ap, arith}
 use Rattle.iris_name.specs.declared.name.Name.{Name}
 use Rattle.iris_node.specs.Unfolded.{Unfolded, Absent, Folder, Leaf, Even, Split, Stored, blocks}
 use Rattle.iris_shape.specs.Folds.{folded}
-use Rattle.iris_rows.specs.Rows.{File, Rows, End, Row, Table}
+use Rattle.iris_rows.specs.Rows.{Rows, End, Row}
 use Rattle.iris_records.specs.Shown.{treap_of_entries, owns, directory, versions}
 use Rattle.iris_rows.specs.Sound.{FitsRecord, AllFiles, rows_in}
 use Rattle.iris_table_laws.proofs.Grammar.{blocks_rows}

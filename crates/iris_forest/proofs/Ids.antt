@@ -1,10 +1,10 @@
 -- Small facts of ids, of looking in one place and then in another, and of where resolving ends.
-use Rattle.std.proofs.Common.{◌≡◌, ℕ, ◌+◌, ◌≤◌, ◌<◌, Bool, true, false, ◌&&◌, cond, Option, Some, None, refl, sym, ◌∙◌, ap, arith}
+use Rattle.std.proofs.Common.{◌≡◌, ℕ, ◌≤◌, ◌<◌, Bool, true, false, ◌&&◌, cond, Option, None, refl, ◌∙◌, ap, arith}
 use Rattle.std.specs.Prelude.{◌==◌, nat_le, nat_lt}
 use Rattle.std.proofs.lemmas.Bool.Decides.{nat_tests}
 use Rattle.iris_node.specs.Unfolded.{Unfolded}
 use Rattle.iris_shape.specs.Local.{either}
-use Rattle.iris_rows.specs.Rows.{Taken, Found, Here, Missing, Through}
+use Rattle.iris_rows.specs.Rows.{Taken, Here, Missing, Through}
 use Rattle.iris_records.proofs.PartRecords.{either_none}
 
 pub one_of : (i id : ℕ) → i ≡ id → 1 ≤ cond (i == id) 1 0

@@ -1,5 +1,5 @@
 -- What stands for nothing: a name whose number is given to none of the rows.
-use Rattle.std.proofs.Common.{◌≡◌, ℕ, ◌+◌, ◌≤◌, ◌<◌, List, [], Bool, true, false, ◌&&◌, cond, Option, Some, None, refl, sym, ◌∙◌, ap, arith}
+use Rattle.std.proofs.Common.{◌≡◌, ℕ, ◌+◌, ◌≤◌, ◌<◌, List, [], Bool, true, false, ◌&&◌, cond, Option, Some, None, refl, ◌∙◌, ap, arith}
 use Rattle.std.specs.Prelude.{◌==◌, nat_le, nat_lt}
 use Rattle.std.proofs.lemmas.Bool.Decides.{nat_tests}
 use Rattle.iris_name.specs.declared.name.Name.{Name}
@@ -8,12 +8,12 @@ use Rattle.iris_node.specs.Unfolded.{Unfolded, Absent, Folder, id_of}
 use Rattle.iris_shape.specs.Local.{either}
 use Rattle.iris_rows.specs.Rows.{File, Rows, End, Row, Table}
 use Rattle.iris_records.specs.Shown.{versions, block_of_place, part_in, directory, in_directory, in_file, inside_rows, root_entry, trash_entry, roots, shown}
-use Rattle.iris_rows.specs.Sound.{IsSound, times_given}
+use Rattle.iris_rows.specs.Sound.{times_given}
 use Rattle.iris_table_laws.proofs.NamesByNumber.{number, many_rows}
 use Rattle.iris_table_laws.proofs.NestedNodes.{nest, held_counts}
 use Rattle.iris_table_laws.proofs.NodesInTrees.{directory_stands}
 use Rattle.iris_forest.specs.Forest.{NextIsNew}
-use Rattle.iris_forest.proofs.Ids.{other_id, smaller_id, either_first, either_both}
+use Rattle.iris_forest.proofs.Ids.{other_id, either_first, either_both}
 
 pub no_file : (n : Name) (id : ℕ) (f : File) → (number n == id) ≡ false → in_file n id f ≡ None
 no_file (Entry i) id f e = refl

@@ -2,8 +2,7 @@
 use Rattle.std.proofs.Common.{◌≡◌, ◌≢◌, ◌⊎◌, inl, inr, ℕ, List, [], ◌∷◌, Bool, true, false, cond, Option, Some, None, refl, sym, ◌∙◌, ap, subst}
 use Rattle.std.specs.Str.{bytes_eq}
 use Rattle.iris_name.specs.declared.name.FileId.{FileId}
-use Rattle.iris_name.specs.declared.name.Name.TheVariants.{Entry}
-use Rattle.iris_node.specs.Unfolded.{Unfolded, id_of}
+use Rattle.iris_node.specs.Unfolded.{id_of}
 use Rattle.iris_plain.specs.declared.checks.Seen.TheVariants.{ADirectory, AFile}
 use Rattle.iris_shape.specs.Treap.{Each}
 use Rattle.iris_treepaths.specs.Rows as tree

@@ -1,5 +1,5 @@
 -- What a table with rows in hand shows is a tree.
-use Rattle.std.proofs.Common.{◌≡◌, ◌⊎◌, inl, inr, ℕ, ◌+◌, ◌-◌, ◌≤◌, List, [], Bool, true, false, ◌&&◌, cond, Option, Some, None, refl, sym, ◌∙◌, ap, subst, arith}
+use Rattle.std.proofs.Common.{◌≡◌, ◌⊎◌, inl, inr, ℕ, ◌+◌, ◌≤◌, List, Bool, true, false, ◌&&◌, cond, Option, Some, None, refl, sym, ◌∙◌, ap, subst, arith}
 use Rattle.std.specs.Prelude.{◌==◌, nat_le, nat_lt}
 use Rattle.std.proofs.lemmas.Bool.Decides.{nat_tests}
 use Rattle.iris_name.specs.Names.{same_name}
@@ -7,9 +7,9 @@ use Rattle.iris_name.specs.declared.name.FileId.{FileId}
 use Rattle.iris_name.specs.declared.name.Name.{Name}
 use Rattle.iris_name.specs.declared.name.Name.TheVariants.{Entry, Part, Block}
 use Rattle.iris_node.specs.Trees.{IsNodeName, IsAbove, node_name}
-use Rattle.iris_node.specs.Unfolded.{Unfolded, Absent, Leaf, id_of}
+use Rattle.iris_node.specs.Unfolded.{Unfolded, id_of}
 use Rattle.iris_shape.specs.Local.{either}
-use Rattle.iris_rows.specs.Rows.{File, Rows, End, Row, Table}
+use Rattle.iris_rows.specs.Rows.{Rows, End, Row, Table}
 use Rattle.iris_records.specs.Shown.{versions, treap_of_entries, owns, directory, in_directory, in_file, inside_rows, root_entry, trash_entry, roots, shown}
 use Rattle.iris_rows.specs.Sound.{times_given}
 use Rattle.iris_table_laws.proofs.NamesByNumber.{number, inside_by, many_rows, file_weight}

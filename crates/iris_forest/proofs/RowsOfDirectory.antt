@@ -1,9 +1,7 @@
 -- The rows of a directory as a table shows them.
-use Rattle.std.proofs.Common.{◌≡◌, ◌≢◌, ◌⊎◌, inl, inr, ℕ, ◌+◌, ◌*◌, ◌<◌, ◌≤◌, ◌^◌, List, [], ◌∷◌, map, Bool, true, false, ◌&&◌, cond, Option, Some, None, refl, sym, ◌∙◌, ap, subst, arith}
+use Rattle.std.proofs.Common.{◌≡◌, ◌≢◌, ◌⊎◌, inl, inr, ℕ, ◌+◌, ◌≤◌, List, [], ◌∷◌, map, Bool, true, false, ◌&&◌, cond, Option, Some, None, refl, sym, ◌∙◌, ap, subst, arith}
 use Rattle.std.specs.Prelude.{◌==◌, nat_le, nat_lt}
-use Rattle.std.proofs.lemmas.Bool.Decides.{nat_tests}
 use Rattle.iris_name.specs.Hmac.{priority}
-use Rattle.iris_name.specs.declared.name.Name.{Name}
 use Rattle.iris_name.specs.declared.name.Name.TheVariants.{Entry}
 use Rattle.iris_node.specs.Trees.{node_name}
 use Rattle.iris_node.specs.Unfolded.{Unfolded, Folder, id_of}
@@ -17,13 +15,12 @@ use Rattle.iris_treepaths.specs.Rows.{row_id, row_name, below_row, entry_of, row
 use Rattle.iris_treepaths.specs.Rows.{treap_of_rows as tree_arranged}
 use Rattle.iris_treepaths.specs.Rows as tree
 use Rattle.iris_rows.specs.Rows.{File, Rows, End, Row, Table}
-use Rattle.iris_records.specs.Shown.{Own, own_id, entry_above, unfolded_entries, treap_of_entries, owns, directory, versions, shown}
+use Rattle.iris_records.specs.Shown.{Own, own_id, entry_above, unfolded_entries, treap_of_entries, owns, directory, shown}
 use Rattle.iris_rows.specs.Sound.{IsSound, AllFiles, FitsRecord, times_given, rows_in, PrecedesFirst, IsOrdered, IsTrash}
 use Rattle.iris_records.specs.Walks.{IsRising}
 use Rattle.iris_records.proofs.TreapOfRows.{less_before}
 use Rattle.iris_rows.proofs.RowCount.{few_rows}
 use Rattle.iris_table_laws.proofs.NamesByNumber.{many_rows}
-use Rattle.iris_table_laws.proofs.NestedNodes.{many, nest}
 use Rattle.iris_forest.specs.Places.{content_by, row_of_own, rows_of, DirectoryIn, IsTableDirectory, DirectoriesHaveRows}
 use Rattle.iris_forest.specs.Hands.{IsHeld, HeldRows}
 use Rattle.iris_forest.proofs.Ids.{one_of, at_most, given}

@@ -1,8 +1,8 @@
 -- The files of a table as it shows them: their entries, their versions and their blocks.
-use Rattle.std.proofs.Common.{◌≡◌, ◌⊎◌, inl, inr, ℕ, ◌+◌, ◌*◌, ◌<◌, ◌≤◌, ◌^◌, List, Option, Some, None, refl, sym, ◌∙◌, ap, subst, arith}
+use Rattle.std.proofs.Common.{◌≡◌, inl, inr, ℕ, List, Some, None, refl, sym, ◌∙◌, subst, arith}
 use Rattle.iris_name.specs.declared.name.Name.TheVariants.{Entry, Part, Block}
 use Rattle.iris_node.specs.Unfolded.{Unfolded, Leaf, id_of}
-use Rattle.iris_version_tree.specs.Versions.{IsFileOf, HasVersions, whole}
+use Rattle.iris_version_tree.specs.Versions.{IsFileOf, whole}
 use Rattle.iris_files.specs.Refiles.{HasLength}
 use Rattle.iris_rows.specs.Rows.{File, Rows, End, Row, Table}
 use Rattle.iris_records.specs.Shown.{versions, shown}

@@ -1,5 +1,5 @@
 -- What the checks of an accepted request leave, and the table after it.
-use Rattle.std.proofs.Common.{◌≡◌, ◌≢◌, ◌⊎◌, inl, inr, ℕ, ◌+◌, ◌/◌, ◌<◌, ◌≤◌, List, [], ◌∷◌, length, Bool, true, false, ◌&&◌, cond, Option, Some, None, refl, sym, ◌∙◌, ap, arith}
+use Rattle.std.proofs.Common.{◌≡◌, ◌≢◌, ℕ, ◌+◌, ◌<◌, ◌≤◌, List, [], ◌∷◌, length, Bool, true, false, ◌&&◌, cond, Option, Some, None, refl, sym, ◌∙◌, ap, arith}
 use Rattle.std.specs.Prelude.{◌==◌, is_none, nat_lt}
 use Rattle.std.proofs.lemmas.Bool.Decides.{nat_tests}
 use Rattle.iris_name.specs.declared.request.PlainError.{PlainError}
@@ -10,7 +10,6 @@ use Rattle.iris_name.specs.Paths.{names_of}
 use Rattle.iris_plain.specs.Checks.{blocks_of, is_full, is_there, size_of, on_names, then_error, error_if, no_place, write_checks, resize_checks, move_checks}
 use Rattle.iris_plain.specs.Routes.{parent, last, is_top, is_front, is_at_or_under}
 use Rattle.iris_plain.specs.Steps.{by_names}
-use Rattle.iris_plain.specs.declared.checks.Seen.{Seen}
 use Rattle.iris_plain.specs.declared.checks.Seen.TheVariants.{ADirectory, AFile}
 use Rattle.iris_rows.specs.Changes.{seen_in, seen_row, seen_file, made, filed, emptied, row_moved, accepted_change, stepped, table_verdict}
 use Rattle.iris_rows.specs.FileChanges.{file_written, cut}

@@ -7,14 +7,13 @@ use Rattle.iris_name.specs.Paths.{names_of}
 use Rattle.iris_plain.specs.Checks.{is_full, on_names, no_place, move_checks}
 use Rattle.iris_plain.specs.Routes.{parent, last, is_top, is_front}
 use Rattle.iris_rows.specs.Changes.{seen_in, made, stepped, table_verdict, row_moved}
-use Rattle.iris_rows.specs.Rows.{File, Rows, Table, Here, empty_file}
+use Rattle.iris_rows.specs.Rows.{Table, Here, empty_file}
 use Rattle.iris_records.specs.Shown.{shown}
 use Rattle.iris_rows.specs.Sound.{IsSound}
 use Rattle.iris_rows.proofs.SoundStep.{sound_kept}
 use Rattle.iris_plan_laws.specs.Blocks.{SameBlocks, IsOfRows, RowsKeepBlocks}
 use Rattle.iris_plan_laws.specs.Makes.{making}
 use Rattle.iris_plan_laws.specs.Moves.{in_hand, left_below}
-use Rattle.iris_plan_laws.specs.Steps.{IsEmptyContent}
 use Rattle.iris_plan_laws.proofs.AcceptedRequests.{IsFree, refused_step, has_names, made_kind, made_free, made_step, accepted_move, moved_step}
 use Rattle.iris_plan_laws.proofs.MovedRow.{halves_of_move}
 use Rattle.iris_plan_laws.proofs.NewRow.{made_blocks}

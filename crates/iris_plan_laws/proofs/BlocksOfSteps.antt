@@ -9,17 +9,16 @@ use Rattle.iris_node.specs.Unfolded.{Unfolded, Stored, id_of}
 use Rattle.iris_name.specs.declared.name.FileId.{FileId}
 use Rattle.iris_name.specs.declared.name.Name.TheVariants.{Block}
 use Rattle.iris_plain.specs.Checks.{blocks_of}
-use Rattle.iris_rows.specs.Changes.{filed, stepped, table_verdict}
+use Rattle.iris_rows.specs.Changes.{filed, stepped}
 use Rattle.iris_rows.specs.FileChanges.{merged, is_touched, file_written, is_split, cut}
 use Rattle.iris_rows.specs.Rows.{File, Rows, Table, Here, met, zeros}
 use Rattle.iris_records.specs.Shown.{block_of_place, shown}
 use Rattle.iris_rows.specs.Sound.{IsSound, IsCounted}
 use Rattle.iris_rows.proofs.SoundStep.{sound_kept}
 use Rattle.iris_forest.proofs.VersionsOfFile.{blocks_stand, file_counted}
-use Rattle.iris_plan_laws.specs.Begun.{IsAtFile}
 use Rattle.iris_plan_laws.specs.Blocks.{ChangesBlocks, AreAmong, is_cut_at, WritesChangeBlocks, ResizesChangeBlocks}
 use Rattle.iris_plan_laws.proofs.AcceptedRequests.{written_step, written_limit, resized_step, resized_limit, same_step}
-use Rattle.iris_plan_laws.proofs.FileById.{ByFileId, by_file_id, re, re_keeps, re_shown}
+use Rattle.iris_plan_laws.proofs.FileById.{by_file_id, re, re_keeps, re_shown}
 use Rattle.iris_plan_laws.proofs.MappedShown.{same_block}
 
 -- a change of the file at a path
@@ -63,15 +62,17 @@ is_below : (a b : ℕ) → nat_lt a b ≡ true → a < b
 is_below a b e = grind (arith, nat_tests)
 
 touched_among : (offset count : ℕ) → 0 < count → count ≤ 262144 → AreAmong 65 (is_touched offset count)
-touched_among offset count some few = (offset / 4096, λ p e. (let b = and_parts (nat_le (offset / 4096) p) (nat_le p ((offset + count - 1) / 4096)) e in
-    let l = is_at_most (offset / 4096) p b.0 in let h = is_at_most p ((offset + count - 1) / 4096) b.1 in (l, omega (arith, h, some, few))))
+touched_among offset count some few = (
+  offset / 4096,
+  λ p e. (let b = and_parts (nat_le (offset / 4096) p) (nat_le p ((offset + count - 1) / 4096)) e in
+      let l = is_at_most (offset / 4096) p b.0 in let h = is_at_most p ((offset + count - 1) / 4096) b.1 in (l, omega (arith, h, some, few))),
+)
 
 pub writes_change_blocks : WritesChangeBlocks
 writes_change_blocks order t path offset bytes i f s v a some =
     let e = written_step t path i f a offset bytes v some in
     let sound = subst IsSound e (sound_kept t (Write path offset bytes) s) in
-    let b = by_file_id t (file_written offset bytes) a.names i f a.inside s a.leads in
-    (
+    let b = by_file_id t (file_written offset bytes) a.names i f a.inside s a.leads in (
       subst (λ u. ChangesBlocks (shown order t) (shown order u) (id_of i) (is_touched offset (length bytes))) (sym e)
           (filed_changes order t (file_written offset bytes) a.names i f a.inside (is_touched offset (length bytes)) s sound a.leads
           (written_same offset bytes f) (λ p. written_differs t.age offset bytes f p (file_counted t i f s b.was))),
@@ -119,11 +120,13 @@ module _ (size : ℕ) (f : File) where
   cut_ways : (p : ℕ) → is_cut_at size f p ≡ true → (f.version p ≢ 0) × ((blocks_of size ≤ p) ⊎ ((size < f.size) × (p ≡ size / 4096)))
   cut_ways p e =
       let b = and_parts (not (f.version p == 0)) (nat_le (blocks_of size) p || is_split size f.size p) e in
-      let z = is_not (f.version p == 0) b.0 in
-      ((λ h. (let k : (f.version p == 0) ≡ true = grind (arith, nat_tests) in let q = sym k ∙ z in cc)), elim (either_true (nat_le (blocks_of size) p) (is_split size f.size p) b.1) [
-        | inl l ↦ inl (is_at_most (blocks_of size) p l)
-        | inr s ↦ (let w = and_parts (nat_lt size f.size) (p == size / 4096) s in inr (is_below size f.size w.0, (let k : p ≡ size / 4096 = grind (arith, nat_tests) in k)))
-      ])
+      let z = is_not (f.version p == 0) b.0 in (
+        (λ h. (let k : (f.version p == 0) ≡ true = grind (arith, nat_tests) in let q = sym k ∙ z in cc)),
+        elim (either_true (nat_le (blocks_of size) p) (is_split size f.size p) b.1) [
+          | inl l ↦ inl (is_at_most (blocks_of size) p l)
+          | inr s ↦ (let w = and_parts (nat_lt size f.size) (p == size / 4096) s in inr (is_below size f.size w.0, (let k : p ≡ size / 4096 = grind (arith, nat_tests) in k)))
+        ],
+      )
 
   -- what is cut was no hole, so it stands before the old end
   stood : (age p : ℕ) → IsCounted age f → f.version p ≢ 0 → p < blocks_of f.size
@@ -133,10 +136,13 @@ module _ (size : ℕ) (f : File) where
     by false e = grind (arith, nat_tests)
 
   cut_among : (age : ℕ) → IsCounted age f → blocks_of f.size ≤ blocks_of size + 64 → AreAmong 65 (is_cut_at size f)
-  cut_among age c few = (size / 4096, λ p e. (let w = cut_ways p e in elim w.1 [
-    | inl l ↦ (let h = stood age p c w.0 in (omega (arith, l), omega (arith, h, few)))
-    | inr s ↦ (let q = s.1 in (omega (arith, q), omega (arith, q)))
-  ]))
+  cut_among age c few = (
+    size / 4096,
+    λ p e. (let w = cut_ways p e in elim w.1 [
+      | inl l ↦ (let h = stood age p c w.0 in (omega (arith, l), omega (arith, h, few)))
+      | inr s ↦ (let q = s.1 in (omega (arith, q), omega (arith, q)))
+    ]),
+  )
 
   -- a file that keeps its length isn't cut
   uncut : (age p : ℕ) → IsCounted age f → f.size ≡ size → is_cut_at size f p ≡ true → ⊥

@@ -1,12 +1,12 @@
 -- The table between the two steps of a cut is sound.
-use Rattle.std.proofs.Common.{◌≡◌, ℕ, ◌+◌, ◌/◌, ◌%◌, ◌≤◌, ◌<◌, List, length, get_or, Bool, true, false, ◌&&◌, cond, Some, refl, arith}
+use Rattle.std.proofs.Common.{◌≡◌, ℕ, ◌+◌, ◌/◌, ◌%◌, ◌≤◌, ◌<◌, length, get_or, Bool, true, false, ◌&&◌, cond, Some, refl, arith}
 use Rattle.std.specs.Prelude.{not, nat_le, nat_lt}
 use Rattle.std.proofs.lemmas.Bool.Decides.{nat_tests}
 use Rattle.iris_plain.specs.Checks.{blocks_of}
 use Rattle.iris_plain.specs.Routes.{parent, last}
 use Rattle.iris_shape.specs.FoldLaws.{with_range_set}
-use Rattle.iris_rows.specs.Rows.{File, Table, zeros, file_at}
-use Rattle.iris_rows.specs.Sound.{IsSound, IsGood, IsCounted, FitsRecord}
+use Rattle.iris_rows.specs.Rows.{File, zeros, file_at}
+use Rattle.iris_rows.specs.Sound.{IsGood, IsCounted, FitsRecord}
 use Rattle.iris_rows.proofs.CountedFiles.{counted_more}
 use Rattle.iris_rows.proofs.DistinctRows.{distinct_at, distinct_file_at, good_at_path}
 use Rattle.iris_rows.proofs.FilesAmongRows.{all_at, all_file_at, all_filed, all_map, good_file_at}

@@ -1,24 +1,19 @@
 -- What the definitions hold of, and what near by they don't.
-use Rattle.std.proofs.Common.{◌≡◌, ℕ, ◌+◌, ◌<◌, ◌≤◌, List, [], ◌∷◌, Bool, true, false, ◌||◌, cond, Option, Some, None, refl, sym, ◌∙◌, ap, arith}
+use Rattle.std.proofs.Common.{◌≡◌, ℕ, ◌+◌, ◌<◌, ◌≤◌, List, [], ◌∷◌, Bool, true, false, ◌||◌, cond, Option, Some, None, refl, ◌∙◌, ap, arith}
 use Rattle.std.specs.Prelude.{◌==◌, codes}
 use Rattle.std.proofs.lemmas.Bool.Decides.{nat_tests}
 use Rattle.iris_name.specs.declared.name.FileId.{FileId}
-use Rattle.iris_name.specs.declared.name.Name.{Name}
 use Rattle.iris_name.specs.declared.name.Name.TheVariants.{Entry, Part, Block}
-use Rattle.iris_name.specs.declared.request.Request.{Request}
 use Rattle.iris_name.specs.declared.request.Request.TheVariants.{Mkdir, Create, Write, Rename}
 use Rattle.iris_name.specs.Paths.{names_of}
 use Rattle.iris_node.specs.Trees.{Shown}
 use Rattle.iris_node.specs.Unfolded.{Unfolded, Stored, id_of}
-use Rattle.iris_cache.specs.Drafted.{Drafted}
-use Rattle.iris_cache.specs.Resident.{Resident}
 use Rattle.iris_rows.specs.Changes.{after_requests}
 use Rattle.iris_rows.specs.FileChanges.{is_touched}
 use Rattle.iris_rows.specs.Rows.{File, Rows, End, Row, Table, Taken, Found, Here, root_row, met, empty_table, empty_file, zeros}
-use Rattle.iris_rows.proofs.SoundStep.{sound_empty}
 use Rattle.iris_shape.specs.FoldLaws.{with_range_set}
 use Rattle.iris_forest.proofs.Ids.{taken_eq}
-use Rattle.iris_plan_laws.specs.Begun.{IsPictured, PlanBegins, IsAtFile}
+use Rattle.iris_plan_laws.specs.Begun.{IsAtFile}
 use Rattle.iris_plan_laws.specs.Blocks.{SameBlocks, ChangesBlocks, AreAmong, is_cut_at, IsOfRows}
 use Rattle.iris_plan_laws.specs.FileChanges.{emptied_past}
 use Rattle.iris_plan_laws.specs.Makes.{making}

@@ -1,5 +1,5 @@
 -- A change of one file, by its id and by its path, and what names stand for then.
-use Rattle.std.proofs.Common.{◌≡◌, ◌⊎◌, inl, inr, ℕ, ◌+◌, ◌≤◌, List, [], ◌∷◌, map, Bool, true, false, cond, Option, Some, None, refl, sym, ◌∙◌, ap, subst, arith}
+use Rattle.std.proofs.Common.{◌≡◌, ◌⊎◌, inl, inr, ℕ, ◌≤◌, List, [], ◌∷◌, map, Bool, true, false, cond, Option, Some, None, refl, sym, ◌∙◌, ap, subst, arith}
 use Rattle.std.specs.Prelude.{◌==◌}
 use Rattle.std.specs.Option.{option_map}
 use Rattle.std.specs.Str.{bytes_eq}
@@ -10,7 +10,7 @@ use Rattle.iris_node.specs.Unfolded.{Unfolded, Absent, Folder, Leaf, id_of}
 use Rattle.iris_plain.specs.Routes.{parent, last}
 use Rattle.iris_shape.specs.Local.{either}
 use Rattle.iris_version_tree.specs.Versions.{IsOfOtherFile}
-use Rattle.iris_rows.specs.Rows.{File, Rows, End, Row, Table, Taken, Here, root_row, resolved, find, followed, entered, at, file_at, on_file}
+use Rattle.iris_rows.specs.Rows.{File, Rows, End, Row, Table, Taken, Here, root_row, resolved, find, followed, at, file_at, on_file}
 use Rattle.iris_rows.specs.Changes.{filed}
 use Rattle.iris_records.specs.Shown.{Own, entry_above, treap_of_entries, owns, directory, in_directory, in_file, inside_rows, root_entry, trash_entry, roots, shown, versions}
 use Rattle.iris_rows.specs.Sound.{IsSound, times_given}

@@ -1,7 +1,6 @@
 -- What a request makes goes through.
-use Rattle.std.proofs.Common.{◌≡◌, inl, ℕ, List, Bool, true, false, Option, Some, None, refl, sym, subst}
+use Rattle.std.proofs.Common.{inl, ℕ, List, Bool, true, false, Option, Some, None, refl, sym, subst}
 use Rattle.std.specs.Prelude.{is_none}
-use Rattle.iris_name.specs.Paths.{names_of}
 use Rattle.iris_node.specs.Unfolded.{id_of}
 use Rattle.iris_cache.specs.Drafted.{Drafted}
 use Rattle.iris_cache.specs.Pictures.{Drafts}
@@ -18,7 +17,7 @@ use Rattle.iris_forest.proofs.NamesNowhere.{next_is_new}
 use Rattle.iris_forest.proofs.NodesAreFormed.{stands_tree, formed, rooted}
 use Rattle.iris_forest.proofs.PathsInTable.{leads_at}
 use Rattle.iris_forest.proofs.RowsOfDirectory.{have_rows}
-use Rattle.iris_plan_laws.specs.Begun.{IsPictured, PlanBegins, GoesThrough}
+use Rattle.iris_plan_laws.specs.Begun.{IsPictured}
 use Rattle.iris_plan_laws.specs.Makes.{making, SaysMade, MakesGoThrough}
 use Rattle.iris_plan_laws.specs.Steps.{IsEmptyContent}
 use Rattle.iris_plan_laws.proofs.AcceptedRequests.{IsFree, made_kind, made_free, made_step}

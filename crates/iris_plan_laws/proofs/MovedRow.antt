@@ -1,13 +1,11 @@
 -- A move: the row goes into the hand, and from it to its new name.
-use Rattle.std.proofs.Common.{◌≡◌, ℕ, ◌+◌, ◌≤◌, ◌<◌, ◌^◌, List, [], ◌∷◌, length, Bool, true, false, cond, Option, Some, None, inl, refl, sym, ◌∙◌, ap, subst, arith}
+use Rattle.std.proofs.Common.{◌≡◌, ℕ, ◌+◌, List, [], ◌∷◌, Bool, true, false, cond, Option, Some, None, inl, refl, sym, ◌∙◌, ap, subst, arith}
 use Rattle.std.specs.Str.{bytes_eq}
-use Rattle.iris_name.specs.declared.name.Name.{Name}
 use Rattle.iris_name.specs.declared.request.Request.TheVariants.{Rename}
-use Rattle.iris_name.specs.Paths.{names_of}
 use Rattle.iris_node.specs.Unfolded.{id_of}
 use Rattle.iris_plain.specs.Routes.{parent, last}
-use Rattle.iris_rows.specs.Rows.{File, Rows, End, Row, Table, Taken, Here, root_row, met, resolved, followed, entered, find, without_row, at}
-use Rattle.iris_rows.specs.Changes.{stepped, row_moved, table_verdict, seen_in}
+use Rattle.iris_rows.specs.Rows.{File, Rows, End, Row, Table, Taken, Here, root_row, resolved, followed, entered, find, without_row, at}
+use Rattle.iris_rows.specs.Changes.{row_moved, seen_in}
 use Rattle.iris_records.specs.Shown.{shown}
 use Rattle.iris_rows.specs.Sound.{IsSound, FitsRecord, rows_in}
 use Rattle.iris_rows.proofs.RowCount.{few_rows}
@@ -20,10 +18,10 @@ use Rattle.iris_forest.specs.Places.{LeadsToDirectory, rows_of}
 use Rattle.iris_forest.proofs.BlockCounts.{held_counts, countable}
 use Rattle.iris_forest.proofs.Ids.{taken_eq}
 use Rattle.iris_forest.proofs.NodesAreFormed.{stands_tree, formed, rooted}
-use Rattle.iris_forest.proofs.PathsInTable.{leads_at, child_leads, paths_meet}
+use Rattle.iris_forest.proofs.PathsInTable.{leads_at, child_leads}
 use Rattle.iris_forest.proofs.RowsInHand.{held_trees}
 use Rattle.iris_forest.proofs.RowsOfDirectory.{have_rows, held_rows, held_of}
-use Rattle.iris_plan_laws.specs.Moves.{in_hand, HandsAreHeld, left_below, SaysMoved, MovesGoThrough}
+use Rattle.iris_plan_laws.specs.Moves.{in_hand, HandsAreHeld, left_below, MovesGoThrough}
 use Rattle.iris_plan_laws.specs.Takes.{tree_row, TakesOut, PutsIn}
 use Rattle.iris_plan_laws.proofs.AcceptedRequests.{IsMove, accepted_move, moved_step, in_directory_of}
 use Rattle.iris_plan_laws.proofs.Pictured.{pictured_paths}

@@ -1,11 +1,10 @@
 -- A new row in a directory.
-use Rattle.std.proofs.Common.{◌≡◌, ◌⊎◌, inl, inr, ℕ, ◌+◌, ◌<◌, ◌≤◌, List, [], ◌∷◌, ◌++◌, Bool, true, false, ◌&&◌, ◌||◌, cond, Option, Some, None, refl, sym, ◌∙◌, ap, subst, arith}
+use Rattle.std.proofs.Common.{◌≡◌, inl, inr, ℕ, ◌+◌, ◌<◌, ◌≤◌, List, [], ◌∷◌, ◌++◌, Bool, true, false, ◌&&◌, ◌||◌, cond, Option, Some, None, refl, sym, ◌∙◌, ap, subst, arith}
 use Rattle.std.specs.Prelude.{◌==◌, is_none, nat_le, nat_lt}
 use Rattle.std.specs.Option.{option_map}
 use Rattle.std.specs.Str.{bytes_eq}
 use Rattle.std.proofs.lemmas.Bool.Decides.{nat_tests}
 use Rattle.iris_name.specs.Hmac.{priority}
-use Rattle.iris_name.specs.declared.name.FileId.{FileId}
 use Rattle.iris_name.specs.declared.name.Name.{Name}
 use Rattle.iris_name.specs.declared.name.Name.TheVariants.{Entry, Part, Block}
 use Rattle.iris_node.specs.Unfolded.{Unfolded, Even, id_of}
@@ -21,7 +20,7 @@ use Rattle.iris_treepaths.specs.Rows.{has_id, IsElsewhere, Rearranges}
 use Rattle.iris_treepaths.specs.Rows as tree
 use Rattle.iris_treepaths.specs.Ways.{is_row_before}
 use Rattle.iris_paths.specs.Making.{new_row}
-use Rattle.iris_rows.specs.Rows.{File, Rows, End, Row, Table, Taken, Here, root_row, resolved, find, with_row, at, empty_file}
+use Rattle.iris_rows.specs.Rows.{File, Rows, End, Row, Table, Taken, find, with_row, at, empty_file}
 use Rattle.iris_rows.specs.Changes.{made}
 use Rattle.iris_records.specs.Shown.{Own, own_id, entry_above, unfolded_entries, treap_of_entries, owns, directory, entry_in, part_in, in_directory, in_file, inside_rows, roots, shown, versions}
 use Rattle.iris_rows.specs.Sound.{IsSound, times_given}
@@ -30,7 +29,7 @@ use Rattle.iris_rows.proofs.RowsByName.{past}
 use Rattle.iris_rows.proofs.RisingNames.{before_other}
 use Rattle.iris_forest.specs.Hands.{IsHeld}
 use Rattle.iris_forest.specs.Places.{row_of_own, rows_of, DirectoryIn, IsTableDirectory}
-use Rattle.iris_forest.proofs.Ids.{one_of, turned, smaller_id, at_most, given, taken_eq}
+use Rattle.iris_forest.proofs.Ids.{one_of, turned, smaller_id, given, taken_eq}
 use Rattle.iris_forest.proofs.RowsOfDirectory.{arranged_same, have_rows, held_of}
 use Rattle.iris_plan_laws.specs.Blocks.{SameBlocks}
 use Rattle.iris_plan_laws.specs.Steps.{IsEmptyContent, MakesAreRows}

@@ -1,5 +1,5 @@
 -- A table that the cache alone pictures is one that the plans speak of.
-use Rattle.std.proofs.Common.{◌≡◌, inl, ℕ, List}
+use Rattle.std.proofs.Common.{inl, ℕ, List}
 use Rattle.iris_node.specs.Unfolded.{id_of}
 use Rattle.iris_cache.proofs.EmptyDraft.{draft_begins}
 use Rattle.iris_cache.specs.Drafted.{Drafted}

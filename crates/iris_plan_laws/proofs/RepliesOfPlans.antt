@@ -10,7 +10,7 @@ use Rattle.iris_node.specs.Unfolded.{id_of}
 use Rattle.iris_plain.specs.Checks.{unresolved, is_full, is_directory_seen, size_of, on_names, verdict}
 use Rattle.iris_plain.specs.Files.{seen_at}
 use Rattle.iris_plain.specs.Pages.{IsPage}
-use Rattle.iris_plain.specs.Steps.{Judged, Accepted, OnNames, PlainReplies, plain_verdict, has_entry_named}
+use Rattle.iris_plain.specs.Steps.{Judged, Accepted, OnNames, plain_verdict, has_entry_named}
 use Rattle.iris_plain.specs.declared.checks.Seen.{Seen}
 use Rattle.iris_plain.specs.declared.checks.Seen.TheVariants.{ADirectory, AFile, Nothing, AFileBefore}
 use Rattle.iris_treepaths.specs.Rows.{row_name}
@@ -18,7 +18,7 @@ use Rattle.iris_treepaths.specs.Ways.{following}
 use Rattle.iris_paths.specs.Entering.{no_directory}
 use Rattle.iris_paths.specs.Listing.{IsListing, most_names}
 use Rattle.iris_rows.specs.Changes.{seen_in}
-use Rattle.iris_rows.specs.Rows.{Rows, Table, root_row}
+use Rattle.iris_rows.specs.Rows.{Table, root_row}
 use Rattle.iris_rows.specs.View.{view}
 use Rattle.iris_records.specs.Shown.{shown}
 use Rattle.iris_rows.specs.Sound.{AreGood}
@@ -58,10 +58,14 @@ lists_are_replies order t path names after d c reply p n says =
     judged (no_directory (seen_in t names)) (plain_verdict (view t) (ListNames path after)) (IsListing (shown order t) order names after reply) (Accepted (view t).files (ListNames path after) reply) reply
     (checked t (ListNames path after) (names_of path) names (λ names. no_directory (seen_in t names)) s.good n refl)
     (λ e listing. (let l = directory_leads t names (is_directory (seen_in t names) e) in
-        let at = leads_at order t names (root_row t) (record { id = l.0; file = None; inside = l.1 }) (id_of 0) s (inl (refl, refl)) l.2 in
-        on_spelled (names_of path) names (λ names. (page : List (List ℕ)) × ((reply ≡ Names page) × IsPage (has_entry_named (view t).files names) 64 after page)) n
-        (map row_name (following after most_names (rows_of order l.1)), (
-          listing (id_of l.0) at.above (rows_of order l.1) at.leads (have_rows order t l.0 l.1 s at.stands), rows_make_pages order t names after l.0 l.1 s l.2))))
+    let at = leads_at order t names (root_row t) (record { id = l.0; file = None; inside = l.1 }) (id_of 0) s (inl (refl, refl)) l.2 in
+    on_spelled (names_of path) names (λ names. (page : List (List ℕ)) × ((reply ≡ Names page) × IsPage (has_entry_named (view t).files names) 64 after page)) n (
+      map row_name (following after most_names (rows_of order l.1)),
+      (
+        listing (id_of l.0) at.above (rows_of order l.1) at.leads (have_rows order t l.0 l.1 s at.stands),
+        rows_make_pages order t names after l.0 l.1 s l.2,
+      ),
+    )))
     (says (seen_in t) (shown order t) (shown order t) (pictured_paths order t d c p))
 
 pub stats_are_replies : StatsAreReplies
@@ -70,5 +74,5 @@ stats_are_replies order t path names d c reply p n says =
     judged (unresolved (seen_in t names)) (plain_verdict (view t) (Stat path)) (reply ≡ StatIs (is_directory_seen (seen_in t names)) (size_of (seen_in t names))) (Accepted (view t).files (Stat path) reply) reply
     (checked t (Stat path) (names_of path) names (λ names. unresolved (seen_in t names)) s.good n refl)
     (λ e r. on_spelled (names_of path) names (λ names. reply ≡ StatIs (is_directory_seen (seen_at (view t).files names)) (size_of (seen_at (view t).files names))) n
-        (r ∙ ap (λ f. StatIs (is_directory_seen (f names)) (size_of (f names))) (sym (met_same t s.good))))
+    (r ∙ ap (λ f. StatIs (is_directory_seen (f names)) (size_of (f names))) (sym (met_same t s.good))))
     (says (seen_in t) (shown order t) (shown order t) (pictured_paths order t d c p))

@@ -1,5 +1,5 @@
 -- A row taken out of a directory, and put into another.
-use Rattle.std.proofs.Common.{◌≡◌, ◌⊎◌, inl, inr, ℕ, ◌+◌, ◌≤◌, ◌<◌, List, [], ◌∷◌, Bool, true, false, ◌&&◌, cond, Option, Some, None, refl, sym, ◌∙◌, ap, subst, arith}
+use Rattle.std.proofs.Common.{◌≡◌, ◌⊎◌, inl, inr, ℕ, ◌+◌, ◌≤◌, List, [], ◌∷◌, Bool, true, false, ◌&&◌, cond, Option, Some, None, refl, sym, ◌∙◌, ap, subst, arith}
 use Rattle.std.specs.Prelude.{◌==◌, nat_le, nat_lt}
 use Rattle.std.specs.Option.{option_map}
 use Rattle.std.specs.Str.{bytes_eq}
@@ -8,13 +8,13 @@ use Rattle.std.proofs.lemmas.Bool.Decides.{nat_tests}
 use Rattle.iris_name.specs.declared.name.FileId.{FileId}
 use Rattle.iris_name.specs.declared.name.Name.{Name}
 use Rattle.iris_name.specs.declared.name.Name.TheVariants.{Entry, Part, Block}
-use Rattle.iris_node.specs.Unfolded.{Unfolded, id_of}
+use Rattle.iris_node.specs.Unfolded.{id_of}
 use Rattle.iris_plain.specs.Routes.{is_name_before as name_before}
 use Rattle.iris_shape.specs.Local.{either}
-use Rattle.iris_shape.specs.Treap.{rows_with as tree_put, rows_without as tree_without}
+use Rattle.iris_shape.specs.Treap.{rows_with as tree_put}
 use Rattle.iris_treepaths.specs.Rows.{has_id, IsElsewhere, Rearranges}
 use Rattle.iris_treepaths.specs.Rows as tree
-use Rattle.iris_treepaths.specs.Ways.{is_row_before, has_name}
+use Rattle.iris_treepaths.specs.Ways.{is_row_before}
 use Rattle.iris_paths.specs.Moving.{renamed_row}
 use Rattle.iris_rows.specs.Rows.{File, Rows, End, Row, Table, Taken, root_row, find, with_row, without_row, at}
 use Rattle.iris_records.specs.Shown.{directory, in_directory, in_file, inside_rows, root_entry, trash_entry, shown}
@@ -24,7 +24,7 @@ use Rattle.iris_forest.specs.Hands.{IsHeld}
 use Rattle.iris_forest.specs.Places.{LeadsToDirectory, rows_of, IsTableDirectory}
 use Rattle.iris_forest.proofs.Ids.{one_of, id_is, at_most, given, either_first, either_last, taken_eq}
 use Rattle.iris_forest.proofs.NamesNowhere.{inside_none, below_none, shown_rows}
-use Rattle.iris_forest.proofs.RowsOfDirectory.{arranged_same, held_rows, level, insides, times_parts}
+use Rattle.iris_forest.proofs.RowsOfDirectory.{arranged_same, held_rows, level, times_parts}
 use Rattle.iris_plan_laws.specs.Blocks.{SameBlocks}
 use Rattle.iris_plan_laws.specs.Takes.{tree_row, TakesOut, PutsIn, TakesAreRows, PutsAreRows}
 use Rattle.iris_plan_laws.proofs.DirectoryById.{redir, redir_none, redir_in, lead_in, path_redirs, folder_times, fi, fi_keeps, fi_rows, fi_shown}

@@ -1,8 +1,8 @@
 -- Where names lead once a row is in hand, and what is left of the rows there.
-use Rattle.std.proofs.Common.{◌≡◌, ◌≢◌, ◌⊎◌, inl, inr, ℕ, ◌<◌, List, [], ◌∷◌, length, Bool, true, false, ◌&&◌, cond, Option, Some, None, refl, sym, ◌∙◌, ap, arith}
+use Rattle.std.proofs.Common.{◌≡◌, inl, inr, ℕ, List, [], ◌∷◌, Bool, true, false, ◌&&◌, cond, Option, Some, None, refl, sym, ◌∙◌, ap, arith}
 use Rattle.std.specs.Str.{bytes_eq}
 use Rattle.iris_plain.specs.Routes.{parent, last, is_front, is_at_or_under, rest}
-use Rattle.iris_rows.specs.Rows.{File, Rows, End, Row, Table, Taken, Found, Here, root_row, resolved, followed, entered, find, without_row, at}
+use Rattle.iris_rows.specs.Rows.{File, Rows, End, Row, Taken, Here, root_row, resolved, followed, entered, find, without_row, at}
 use Rattle.iris_rows.specs.Sound.{IsDistinct}
 use Rattle.iris_rows.proofs.KindsByPath.{distinct_in}
 use Rattle.iris_rows.proofs.RowHolding.{holding, mapped}

@@ -1,5 +1,5 @@
 -- What a request writes, cuts or fills up goes through.
-use Rattle.std.specs.Prelude.{◌≡◌, ◌≢◌, ◌<◌, ℕ, List, length, if◌then◌else◌, nat_le}
+use Rattle.std.specs.Prelude.{◌≢◌, ◌<◌, ℕ, List, length, if◌then◌else◌, nat_le}
 use Rattle.iris_name.specs.declared.name.FileId.{FileId}
 use Rattle.iris_name.specs.declared.request.Request.TheVariants.{Write, Resize}
 use Rattle.iris_node.specs.Trees.{Shown, IsTree}

@@ -1,5 +1,5 @@
 -- What a request makes goes through.
-use Rattle.std.specs.Prelude.{◌≡◌, ℕ, List, Bool, Option, Some, if◌then◌else◌}
+use Rattle.std.specs.Prelude.{◌≡◌, ℕ, List, Bool, Some, if◌then◌else◌}
 use Rattle.iris_name.specs.declared.name.FileId.{FileId}
 use Rattle.iris_name.specs.declared.request.Request.{Request}
 use Rattle.iris_name.specs.declared.request.Request.TheVariants.{Mkdir, Create}

@@ -1,5 +1,5 @@
 -- A row goes into the hand, where names lead then, and what a request moves goes through.
-use Rattle.std.specs.Prelude.{◌≡◌, ◌<◌, ℕ, List, length, Option, Some, None, false, if◌then◌else◌}
+use Rattle.std.specs.Prelude.{◌≡◌, ◌<◌, ℕ, List, length, Some, None, false, if◌then◌else◌}
 use Rattle.iris_name.specs.declared.name.FileId.{FileId}
 use Rattle.iris_name.specs.declared.request.Request.TheVariants.{Rename}
 use Rattle.iris_name.specs.Paths.{names_of}

@@ -1,5 +1,5 @@
 -- A row taken out of a directory, and put into another, in the words of the plans.
-use Rattle.std.specs.Prelude.{◌≡◌, ℕ, List, Option, Some, None}
+use Rattle.std.specs.Prelude.{◌≡◌, ℕ, List, Some, None}
 use Rattle.iris_node.specs.Unfolded.{id_of}
 use Rattle.iris_shape.specs.Treap.{rows_with as tree_put, rows_without as tree_without}
 use Rattle.iris_treepaths.specs.Rows.{Rearranges}
