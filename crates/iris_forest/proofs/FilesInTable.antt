@@ -1,6 +1,7 @@
 -- What the parts and the blocks of a file stand for in a table.
 use Rattle.std.proofs.Common.{◌≡◌, inl, inr, ℕ, ◌+◌, ◌≤◌, List, false, cond, Some, None, refl, sym, ◌∙◌, ap, subst, arith}
 use Rattle.std.specs.Prelude.{◌==◌}
+use Rattle.std.proofs.lemmas.Bool.{eq-eqb}
 use Rattle.iris_name.specs.declared.name.Name.{Name}
 use Rattle.iris_name.specs.declared.name.Name.TheVariants.{Entry, Part, Block}
 use Rattle.iris_node.specs.Unfolded.{Unfolded, id_of}
@@ -10,7 +11,7 @@ use Rattle.iris_records.specs.Shown.{part_in, versions, block_of_place, director
 use Rattle.iris_rows.specs.Sound.{IsSound, times_given}
 use Rattle.iris_table_laws.proofs.NamesByNumber.{number}
 use Rattle.iris_forest.specs.Places.{FileIn, IsTableFile}
-use Rattle.iris_forest.proofs.Ids.{one_of, same_id, other_id, at_most, either_both}
+use Rattle.iris_forest.proofs.Ids.{one_of, other_id, at_most, either_both}
 use Rattle.iris_forest.proofs.NamesNowhere.{no_file, inside_none}
 use Rattle.iris_records.proofs.PartRecords.{either_none}
 
@@ -90,7 +91,7 @@ file_shown order t n i f s b e h =
     ]
 
 pub part_file : (i l j : ℕ) (f : File) → in_file (Part (id_of i) l j) i f ≡ part_in l j (versions i f)
-part_file i l j f = ap (λ z. either (cond z (part_in l j (versions i f)) None) None) (same_id i i refl) ∙ either_none (part_in l j (versions i f))
+part_file i l j f = ap (λ z. either (cond z (part_in l j (versions i f)) None) None) (eq-eqb i i refl) ∙ either_none (part_in l j (versions i f))
 
 pub block_file : (i p : ℕ) (f : File) → in_file (Block (id_of i) p) i f ≡ block_of_place p f
-block_file i p f = ap (λ z. either None (cond z (block_of_place p f) None)) (same_id i i refl)
+block_file i p f = ap (λ z. either None (cond z (block_of_place p f) None)) (eq-eqb i i refl)

@@ -10,12 +10,6 @@ use Rattle.iris_records.proofs.PartRecords.{either_none}
 pub one_of : (i id : ℕ) → i ≡ id → 1 ≤ cond (i == id) 1 0
 one_of i id e = grind (arith, nat_tests)
 
-pub same_id : (i id : ℕ) → i ≡ id → (i == id) ≡ true
-same_id i id e = grind (arith, nat_tests)
-
-pub id_is : (i id : ℕ) → (i == id) ≡ true → i ≡ id
-id_is i id e = grind (arith, nat_tests)
-
 pub other_id : (i id : ℕ) → cond (i == id) 1 0 ≤ 0 → (i == id) ≡ false
 other_id i id e = by (i == id) e where
   by : (b : Bool) → cond b 1 0 ≤ 0 → b ≡ false

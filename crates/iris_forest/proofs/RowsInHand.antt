@@ -13,7 +13,7 @@ use Rattle.iris_rows.specs.Rows.{Rows, End, Row, Table}
 use Rattle.iris_records.specs.Shown.{versions, treap_of_entries, owns, directory, in_directory, in_file, inside_rows, root_entry, trash_entry, roots, shown}
 use Rattle.iris_rows.specs.Sound.{times_given}
 use Rattle.iris_table_laws.proofs.NamesByNumber.{number, inside_by, many_rows, file_weight}
-use Rattle.iris_table_laws.proofs.TreeOfTable.{trees, trees_own, IsLive, live_left, live_right, file_live, below_live, shown_live, root_counts, no_block, stored_unnamed, stored_lowest}
+use Rattle.iris_table_laws.proofs.TreeOfTable.{few, trees, trees_own, IsLive, live_left, live_right, file_live, below_live, shown_live, root_counts, no_block, stored_unnamed, stored_lowest}
 use Rattle.iris_table_laws.proofs.NestedNodes.{Nest, Bare, Both, Holds, IsOwn, many, nest, inner, held_own, above_top, held_inside, one_node, one_above}
 use Rattle.iris_table_laws.proofs.NodesInTrees.{IsStored, Stands, below, below_stands, directory_stands, file_stands, either_of}
 use Rattle.iris_forest.specs.Hands.{IsHeld, HeldTrees}
@@ -79,22 +79,10 @@ hand_counts order n (Row id name (Some f) inside next) = let a = file_weight n i
 
 -- ---- the whole
 
-few_all : (i next a b x y z : ℕ) → x + (y + z) ≤ cond (nat_le 2 i && nat_lt i next) 1 0 → a ≤ cond (i == 0) 1 0 → b ≤ cond (i == 1) 1 0 → ((a + x) + (b + y)) + z ≤ 1
-few_all i next a b x y z h k l = by (nat_le 2 i) refl (nat_lt i next) h (i == 0) refl k (i == 1) refl l where
-  by : (p : Bool) → nat_le 2 i ≡ p → (q : Bool) → x + (y + z) ≤ cond (p && q) 1 0 → (r : Bool) → (i == 0) ≡ r → a ≤ cond r 1 0 → (s : Bool) → (i == 1) ≡ s → b ≤ cond s 1 0 → ((a + x) + (b + y)) + z ≤ 1
-  by true e q h true f k s g l = absurd (let u : 2 ≤ i = grind (arith, nat_tests) in let v : i ≡ 0 = grind (arith, nat_tests) in omega (arith, u, v))
-  by true e q h false f k true g l = absurd (let u : 2 ≤ i = grind (arith, nat_tests) in let v : i ≡ 1 = grind (arith, nat_tests) in omega (arith, u, v))
-  by true e true h false f k false g l = omega (arith, h, k, l)
-  by true e false h false f k false g l = omega (arith, h, k, l)
-  by false e q h true f k true g l = absurd (let u : i ≡ 0 = grind (arith, nat_tests) in let v : i ≡ 1 = grind (arith, nat_tests) in omega (arith, u, v))
-  by false e q h true f k false g l = omega (arith, h, k, l)
-  by false e q h false f k true g l = omega (arith, h, k, l)
-  by false e q h false f k false g l = omega (arith, h, k, l)
-
 pub all_once : (order : List ℕ) (t : Table) (n : Name) → IsHeld t → many n (all_nest order t) ≤ 1
 all_once order t n s =
     let v = many_rows order n t.visible in let w = many_rows order n t.trash in let x = hand_counts order n t.hand in let o = s.once (number n) in
-    let f = few_all (number n) t.next (cond (same_name n (Entry (id_of 0))) 1 0) (cond (same_name n (Entry (id_of 1))) 1 0) (many n (nest (directory order t.visible))) (many n (nest (directory order t.trash))) (many n (hand_nest order t.hand))
+    let f = few (number n) t.next (cond (same_name n (Entry (id_of 0))) 1 0) (cond (same_name n (Entry (id_of 1))) 1 0) (many n (nest (directory order t.visible))) (many n (nest (directory order t.trash)) + many n (hand_nest order t.hand))
     (omega (arith, v, w, x, o)) (root_counts n 0) (root_counts n 1) in
     omega (arith, f)
 

@@ -1,5 +1,5 @@
 -- Each row of a table stands as an entry in what the table shows.
-use Rattle.std.proofs.Common.{◌≡◌, ◌⊎◌, inl, inr, ℕ, List, ◌∷◌, Option, Some, None, refl, sym, ◌∙◌, ap, subst}
+use Rattle.std.proofs.Common.{◌≡◌, ◌⊎◌, inl, inr, ℕ, ◌+◌, ◌≤◌, List, ◌∷◌, Option, Some, None, refl, sym, ◌∙◌, ap, subst, arith}
 use Rattle.iris_name.specs.Hmac.{priority}
 use Rattle.iris_name.specs.declared.name.Name.{Name}
 use Rattle.iris_name.specs.declared.name.Name.TheVariants.{Entry}
@@ -8,13 +8,50 @@ use Rattle.iris_shape.specs.Order.{beside}
 use Rattle.iris_shape.specs.Treap.{Treap, Empty, Over, treap}
 use Rattle.iris_rows.specs.Rows.{File, Rows, End, Row, Table}
 use Rattle.iris_records.specs.Shown.{Own, own_id, entry_above, unfolded_entries, treap_of_entries, owns, directory, shown}
-use Rattle.iris_rows.specs.Sound.{IsSound}
+use Rattle.iris_rows.specs.Sound.{IsSound, times_given}
 use Rattle.iris_table_laws.proofs.NamesByNumber.{inside_own}
 use Rattle.iris_table_laws.proofs.NestedNodes.{Nest, Holds, nest, inner}
 use Rattle.iris_table_laws.proofs.TreapRows.{Some_row, Some_in, in_treap}
 use Rattle.iris_table_laws.proofs.SameTables.{all_stand}
 use Rattle.iris_forest.specs.Places.{DirectoryIn, FileIn}
+use Rattle.iris_forest.proofs.Ids.{one_of}
 use Rattle.iris_table_laws.proofs.NodesInTrees.{held_arranged}
+
+-- a directory counts among rows
+pub directory_times : (i : ℕ) (inner rows : Rows) → DirectoryIn i inner rows → 1 ≤ times_given i rows
+directory_times i inner End h = absurd h
+directory_times i inner (Row id name None inside next) h = elim h [
+  | inl a ↦ (let o = one_of i id a.0 in omega (arith, o))
+  | inr r ↦ elim r [
+    | inl a ↦ (let o = directory_times i inner inside a in omega (arith, o))
+    | inr a ↦ (let o = directory_times i inner next a in omega (arith, o))
+  ]
+]
+directory_times i inner (Row id name (Some f) inside next) h = let o = directory_times i inner next h in omega (arith, o)
+
+-- where an id stands once it is one directory's
+pub one_directory : (i : ℕ) (a b rows : Rows) → times_given i rows ≤ 1 → DirectoryIn i a rows → DirectoryIn i b rows → a ≡ b
+one_directory i a b End o h g = absurd h
+one_directory i a b (Row id name None inside next) o h g = elim h [
+  | inl x ↦ elim g [
+    | inl y ↦ x.1 ∙ sym y.1
+    | inr r ↦ (let p = one_of i id x.0 in elim r [
+      | inl y ↦ (let q = directory_times i b inside y in absurd (omega (arith, o, p, q)))
+      | inr y ↦ (let q = directory_times i b next y in absurd (omega (arith, o, p, q)))
+    ])
+  ]
+  | inr r ↦ elim r [
+    | inl x ↦ (let p = directory_times i a inside x in elim g [
+      | inl y ↦ (let q = one_of i id y.0 in absurd (omega (arith, o, p, q)))
+      | inr s ↦ elim s [ inl y ↦ one_directory i a b inside (omega (arith, o)) x y | inr y ↦ (let q = directory_times i b next y in absurd (omega (arith, o, p, q))) ]
+    ])
+    | inr x ↦ (let p = directory_times i a next x in elim g [
+      | inl y ↦ (let q = one_of i id y.0 in absurd (omega (arith, o, p, q)))
+      | inr s ↦ elim s [ inl y ↦ (let q = directory_times i b inside y in absurd (omega (arith, o, p, q))) | inr y ↦ one_directory i a b next (omega (arith, o)) x y ]
+    ])
+  ]
+]
+one_directory i a b (Row id name (Some f) inside next) o h g = one_directory i a b next (omega (arith, o)) h g
 
 -- a row of a directory as an entry by itself
 abbrev pub dir_own : List ℕ → ℕ → List ℕ → Rows → Own

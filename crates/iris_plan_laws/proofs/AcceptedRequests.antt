@@ -2,6 +2,7 @@
 use Rattle.std.proofs.Common.{◌≡◌, ◌≢◌, ℕ, ◌+◌, ◌<◌, ◌≤◌, List, [], ◌∷◌, length, Bool, true, false, ◌&&◌, cond, Option, Some, None, refl, sym, ◌∙◌, ap, arith}
 use Rattle.std.specs.Prelude.{◌==◌, is_none, nat_lt}
 use Rattle.std.proofs.lemmas.Bool.Decides.{nat_tests}
+use Rattle.std.proofs.lemmas.Bool.{eqb-true, eq-eqb, ne_eqb}
 use Rattle.iris_name.specs.declared.request.PlainError.{PlainError}
 use Rattle.iris_name.specs.declared.request.PlainError.TheVariants.{TooLong, TooMuch, Full}
 use Rattle.iris_name.specs.declared.request.Request.{Request}
@@ -15,7 +16,7 @@ use Rattle.iris_rows.specs.Changes.{seen_in, seen_row, seen_file, made, filed, e
 use Rattle.iris_rows.specs.FileChanges.{file_written, cut}
 use Rattle.iris_rows.specs.Rows.{File, Rows, Table, Taken, Found, Here, Missing, Through, root_row, met, resolved, followed, entered, find, empty_file}
 use Rattle.iris_rows.proofs.ViewOfStep.{places, moves, front, not_under}
-use Rattle.iris_forest.proofs.Ids.{id_is, same_id, taken_eq, missing_here, through_here}
+use Rattle.iris_forest.proofs.Ids.{taken_eq, missing_here, through_here}
 use Rattle.iris_plan_laws.specs.Begun.{IsAtFile}
 use Rattle.iris_plan_laws.specs.Makes.{making}
 use Rattle.iris_forest.specs.Places.{LeadsToDirectory}
@@ -170,10 +171,7 @@ moved_step t from to olds news row e a b h =
 -- ---- a file that is written, or gets another length
 
 not_zero : (n : ℕ) → 0 < n → (n == 0) ≡ false
-not_zero n h = grind (arith, nat_tests)
-
-not_same : (a b : ℕ) → a ≢ b → (b == a) ≡ false
-not_same a b h = grind (arith, nat_tests)
+not_zero n h = ne_eqb n 0 (λ e. omega (arith, h, e))
 
 module _ (t : Table) (path : List ℕ) (i : ℕ) (f : File) (a : IsAtFile t path i f) where
   seen_there : seen_in t a.names ≡ AFile f.size
@@ -200,12 +198,12 @@ module _ (t : Table) (path : List ℕ) (i : ℕ) (f : File) (a : IsAtFile t path
 
   pub resized_step : (size : ℕ) → table_verdict t (Resize path size) ≡ None → 0 < size → f.size ≢ size → stepped t (Resize path size) ≡ filed (cut size) a.names t
   resized_step size e some other =
-      resized_by size e ∙ ap (λ b. cond b t (cond (size == 0) (emptied a.names t (met t a.names)) (filed (cut size) a.names t))) (not_same f.size size other)
+      resized_by size e ∙ ap (λ b. cond b t (cond (size == 0) (emptied a.names t (met t a.names)) (filed (cut size) a.names t))) (ne_eqb size f.size (λ e. other (sym e)))
       ∙ ap (λ b. cond b (emptied a.names t (met t a.names)) (filed (cut size) a.names t)) (not_zero size some)
 
   pub same_step : (size : ℕ) → table_verdict t (Resize path size) ≡ None → f.size ≡ size → stepped t (Resize path size) ≡ t
   same_step size e same =
-      resized_by size e ∙ ap (λ b. cond b t (cond (size == 0) (emptied a.names t (met t a.names)) (filed (cut size) a.names t))) (same_id size f.size (sym same))
+      resized_by size e ∙ ap (λ b. cond b t (cond (size == 0) (emptied a.names t (met t a.names)) (filed (cut size) a.names t))) (eq-eqb size f.size (sym same))
 
   -- at most 64 blocks are lost
   pub resized_limit : (size : ℕ) → table_verdict t (Resize path size) ≡ None → 0 < size → blocks_of f.size ≤ blocks_of size + 64
@@ -219,7 +217,7 @@ module _ (t : Table) (path : List ℕ) (i : ℕ) (f : File) (a : IsAtFile t path
         by : (long same : Bool) → (size == f.size) ≡ same → (much : Bool) → (nat_lt 0 size && nat_lt (blocks_of size + 64) (blocks_of f.size)) ≡ much
             → then_error (error_if long TooLong) (cond same None (then_error (error_if much TooMuch) (error_if (is_full t.age) Full))) ≡ None → blocks_of f.size ≤ blocks_of size + 64
         by true same q much r e = absurd (cc)
-        by false true q much r e = let k : blocks_of size ≡ blocks_of f.size = ap blocks_of (id_is size f.size q) in omega (arith, k)
+        by false true q much r e = let k : blocks_of size ≡ blocks_of f.size = ap blocks_of (eqb-true size f.size q) in omega (arith, k)
         by false false q true r e = absurd (cc)
         by false false q false r e =
             let z : nat_lt 0 size ≡ true = grind (arith, nat_tests) in let w = both (nat_lt 0 size) (nat_lt (blocks_of size + 64) (blocks_of f.size)) z r in grind (arith, nat_tests)

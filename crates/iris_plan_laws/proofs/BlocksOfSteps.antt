@@ -1,7 +1,7 @@
 -- Which blocks a request changes.
 use Rattle.std.proofs.Common.{◌≡◌, ◌≢◌, ◌⊎◌, inl, inr, ℕ, ◌+◌, ◌-◌, ◌/◌, ◌<◌, ◌≤◌, List, length, take, replicate, ◌%◌, ◌++◌, Bool, true, false, ◌&&◌, ◌||◌, cond, Option, Some, None, refl, sym, ◌∙◌, ap, subst, arith}
 use Rattle.std.specs.Prelude.{◌==◌, not, nat_le, nat_lt}
-use Rattle.std.proofs.lemmas.Bool.{and_parts}
+use Rattle.std.proofs.lemmas.Bool.{and_parts, or_cases, not-true, leb-true, ltb-true, eqb-true, cases_eq}
 use Rattle.std.proofs.lemmas.Bool.Decides.{nat_tests}
 use Rattle.iris_name.specs.declared.request.Request.TheVariants.{Write, Resize}
 use Rattle.iris_node.specs.Trees.{Shown}
@@ -55,17 +55,11 @@ written_differs age offset bytes f p c e h =
     later_differs (f.counter + 1) (f.version p) f.counter (merged offset bytes p (f.block p)) (f.block p) refl (c.version p)
     (sym (ap (λ (b : Bool). block_in (cond b (f.counter + 1) (f.version p)) (cond b (merged offset bytes p (f.block p)) (f.block p))) e) ∙ h)
 
-is_at_most : (a b : ℕ) → nat_le a b ≡ true → a ≤ b
-is_at_most a b e = grind (arith, nat_tests)
-
-is_below : (a b : ℕ) → nat_lt a b ≡ true → a < b
-is_below a b e = grind (arith, nat_tests)
-
 touched_among : (offset count : ℕ) → 0 < count → count ≤ 262144 → AreAmong 65 (is_touched offset count)
 touched_among offset count some few = (
   offset / 4096,
   λ p e. (let b = and_parts (nat_le (offset / 4096) p) (nat_le p ((offset + count - 1) / 4096)) e in
-      let l = is_at_most (offset / 4096) p b.0 in let h = is_at_most p ((offset + count - 1) / 4096) b.1 in (l, omega (arith, h, some, few))),
+      let l = leb-true (offset / 4096) p b.0 in let h = leb-true p ((offset + count - 1) / 4096) b.1 in (l, omega (arith, h, some, few))),
 )
 
 pub writes_change_blocks : WritesChangeBlocks
@@ -108,23 +102,15 @@ module _ (size : ℕ) (f : File) where
   file_differs age p c h =
       cut_differs (f.version p == 0) (nat_le (blocks_of size) p) (is_split size f.size p) (f.version p) f.counter (take (size % 4096) (f.block p) ++ replicate (4096 - size % 4096) 0) (f.block p) refl (c.version p) h
 
-  either_true : (a b : Bool) → (a || b) ≡ true → (a ≡ true) ⊎ (b ≡ true)
-  either_true true b e = inl refl
-  either_true false b e = inr e
-
-  is_not : (b : Bool) → not b ≡ true → b ≡ false
-  is_not true e = absurd (cc)
-  is_not false e = refl
-
   -- the two ways to be cut
   cut_ways : (p : ℕ) → is_cut_at size f p ≡ true → (f.version p ≢ 0) × ((blocks_of size ≤ p) ⊎ ((size < f.size) × (p ≡ size / 4096)))
   cut_ways p e =
       let b = and_parts (not (f.version p == 0)) (nat_le (blocks_of size) p || is_split size f.size p) e in
-      let z = is_not (f.version p == 0) b.0 in (
+      let z = not-true (f.version p == 0) b.0 in (
         (λ h. (let k : (f.version p == 0) ≡ true = grind (arith, nat_tests) in let q = sym k ∙ z in cc)),
-        elim (either_true (nat_le (blocks_of size) p) (is_split size f.size p) b.1) [
-          | inl l ↦ inl (is_at_most (blocks_of size) p l)
-          | inr s ↦ (let w = and_parts (nat_lt size f.size) (p == size / 4096) s in inr (is_below size f.size w.0, (let k : p ≡ size / 4096 = grind (arith, nat_tests) in k)))
+        elim (or_cases (nat_le (blocks_of size) p) (is_split size f.size p) b.1) [
+          | inl l ↦ inl (leb-true (blocks_of size) p l)
+          | inr s ↦ (let w = and_parts (nat_lt size f.size) (p == size / 4096) s in inr (ltb-true size f.size w.0, (eqb-true p (size / 4096) w.1)))
         ],
       )
 
@@ -132,7 +118,7 @@ module _ (size : ℕ) (f : File) where
   stood : (age p : ℕ) → IsCounted age f → f.version p ≢ 0 → p < blocks_of f.size
   stood age p c n = by (nat_le (blocks_of f.size) p) refl where
     by : (b : Bool) → nat_le (blocks_of f.size) p ≡ b → p < blocks_of f.size
-    by true e = absurd (n (c.past p (is_at_most (blocks_of f.size) p e)))
+    by true e = absurd (n (c.past p (leb-true (blocks_of f.size) p e)))
     by false e = grind (arith, nat_tests)
 
   cut_among : (age : ℕ) → IsCounted age f → blocks_of f.size ≤ blocks_of size + 64 → AreAmong 65 (is_cut_at size f)
@@ -151,12 +137,6 @@ module _ (size : ℕ) (f : File) where
     | inr s ↦ (let h = s.0 in absurd (omega (arith, h, same)))
   ]
 
-same_or : (a b : ℕ) → (a ≡ b) ⊎ (a ≢ b)
-same_or a b = by (a == b) refl where
-  by : (x : Bool) → (a == b) ≡ x → (a ≡ b) ⊎ (a ≢ b)
-  by true e = inl (grind (arith, nat_tests))
-  by false e = inr (grind (arith, nat_tests))
-
 -- nothing differs from itself
 kept_all : (t : Shown) (file : FileId) (picks : ℕ → Bool) → ((p : ℕ) → picks p ≡ true → ⊥) → ChangesBlocks t t file picks
 kept_all t file picks none = record { others = λ g p n. refl; kept = λ p e. refl; changed = λ p e h. none p e }
@@ -165,7 +145,7 @@ pub resizes_change_blocks : ResizesChangeBlocks
 resizes_change_blocks order t path size i f s v a some =
     let b = by_file_id t (cut size) a.names i f a.inside s a.leads in
     let c = file_counted t i f s b.was in
-    (by (same_or f.size size) c, cut_among size f t.age c (resized_limit t path i f a size v some)) where
+    (by (cases_eq f.size size) c, cut_among size f t.age c (resized_limit t path i f a size v some)) where
       by : (f.size ≡ size) ⊎ (f.size ≢ size) → IsCounted t.age f → ChangesBlocks (shown order t) (shown order (stepped t (Resize path size))) (id_of i) (is_cut_at size f)
       by (inl same) c =
           subst (λ u. ChangesBlocks (shown order t) (shown order u) (id_of i) (is_cut_at size f)) (sym (same_step t path i f a size v same))

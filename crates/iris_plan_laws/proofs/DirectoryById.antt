@@ -3,6 +3,7 @@ use Rattle.std.proofs.Common.{◌≡◌, ◌⊎◌, inl, inr, ℕ, ◌≤◌, Li
 use Rattle.std.specs.Prelude.{◌==◌}
 use Rattle.std.specs.Option.{option_map}
 use Rattle.std.specs.Str.{bytes_eq}
+use Rattle.std.proofs.lemmas.Bool.{eqb-true, eq-eqb}
 use Rattle.iris_name.specs.declared.name.Name.{Name}
 use Rattle.iris_node.specs.Unfolded.{Unfolded, Absent, Folder}
 use Rattle.iris_shape.specs.Local.{either}
@@ -11,8 +12,9 @@ use Rattle.iris_rows.specs.Rows.{File, Rows, End, Row, Table, Taken, Here, resol
 use Rattle.iris_records.specs.Shown.{Own, entry_above, treap_of_entries, owns, directory, in_directory, in_file, inside_rows, root_entry, trash_entry, roots, shown}
 use Rattle.iris_rows.specs.Sound.{times_given}
 use Rattle.iris_forest.specs.Places.{DirectoryIn}
-use Rattle.iris_forest.proofs.Ids.{one_of, same_id, id_is, other_id, turned, taken_eq, missing_here, through_here}
+use Rattle.iris_forest.proofs.Ids.{one_of, other_id, turned, taken_eq, missing_here, through_here}
 use Rattle.iris_forest.proofs.PathsInTable.{met_in}
+use Rattle.iris_forest.proofs.RowsInTable.{directory_times}
 use Rattle.iris_plan_laws.proofs.MappedShown.{KeepsPlaces, both, found, file_stays, shown_by, arranged}
 
 -- ---- the directory of an id with other rows
@@ -32,49 +34,13 @@ redir_none i inner (Row id name None inside next) o =
     ∙ ap (λ z. Row id name None z (redir i inner next)) (redir_none i inner inside (omega (arith, o))) ∙ ap (Row id name None inside) (redir_none i inner next (omega (arith, o)))
 redir_none i inner (Row id name (Some f) inside next) o = ap (Row id name (Some f) inside) (redir_none i inner next (omega (arith, o)))
 
--- a directory counts among rows
-pub folder_times : (i : ℕ) (inner rows : Rows) → DirectoryIn i inner rows → 1 ≤ times_given i rows
-folder_times i inner End h = absurd h
-folder_times i inner (Row id name None inside next) h = elim h [
-  | inl a ↦ (let o = one_of i id a.0 in omega (arith, o))
-  | inr r ↦ elim r [
-    | inl a ↦ (let o = folder_times i inner inside a in omega (arith, o))
-    | inr a ↦ (let o = folder_times i inner next a in omega (arith, o))
-  ]
-]
-folder_times i inner (Row id name (Some f) inside next) h = let o = folder_times i inner next h in omega (arith, o)
-
--- where an id stands once it is one directory's
-pub one_folder : (i : ℕ) (a b rows : Rows) → times_given i rows ≤ 1 → DirectoryIn i a rows → DirectoryIn i b rows → a ≡ b
-one_folder i a b End o h g = absurd h
-one_folder i a b (Row id name None inside next) o h g = elim h [
-  | inl x ↦ elim g [
-    | inl y ↦ x.1 ∙ sym y.1
-    | inr r ↦ (let p = one_of i id x.0 in elim r [
-      | inl y ↦ (let q = folder_times i b inside y in absurd (omega (arith, o, p, q)))
-      | inr y ↦ (let q = folder_times i b next y in absurd (omega (arith, o, p, q)))
-    ])
-  ]
-  | inr r ↦ elim r [
-    | inl x ↦ (let p = folder_times i a inside x in elim g [
-      | inl y ↦ (let q = one_of i id y.0 in absurd (omega (arith, o, p, q)))
-      | inr s ↦ elim s [ inl y ↦ one_folder i a b inside (omega (arith, o)) x y | inr y ↦ (let q = folder_times i b next y in absurd (omega (arith, o, p, q))) ]
-    ])
-    | inr x ↦ (let p = folder_times i a next x in elim g [
-      | inl y ↦ (let q = one_of i id y.0 in absurd (omega (arith, o, p, q)))
-      | inr s ↦ elim s [ inl y ↦ (let q = folder_times i b inside y in absurd (omega (arith, o, p, q))) | inr y ↦ one_folder i a b next (omega (arith, o)) x y ]
-    ])
-  ]
-]
-one_folder i a b (Row id name (Some f) inside next) o h g = one_folder i a b next (omega (arith, o)) h g
-
 -- it stands there with its other rows
 pub redir_in : (i : ℕ) (inner new rows : Rows) → DirectoryIn i inner rows → times_given i rows ≤ 1 → DirectoryIn i new (redir i new rows)
 redir_in i inner new End h o = absurd h
 redir_in i inner new (Row id name None inside next) h o = elim h [
-  | inl a ↦ inl (a.0, sym (ap (λ b. cond b new (redir i new inside)) (same_id id i (sym a.0))))
+  | inl a ↦ inl (a.0, sym (ap (λ b. cond b new (redir i new inside)) (eq-eqb id i (sym a.0))))
   | inr r ↦ elim r [
-    | inl a ↦ (let p = folder_times i inner inside a in
+    | inl a ↦ (let p = directory_times i inner inside a in
         let z : (id == i) ≡ false = off_turned i id (omega (arith, o, p)) in
         inr (inl (subst (λ b. DirectoryIn i new (cond b new (redir i new inside))) (sym z) (redir_in i inner new inside a (omega (arith, o))))))
     | inr a ↦ inr (inr (redir_in i inner new next a (omega (arith, o))))
@@ -126,7 +92,7 @@ here : (i : ℕ) (new : Rows) (id : ℕ) (name : List ℕ) (file : Option File) 
     → Row id name file new next ≡ redir i new (Row id name file inside next)
 here i new id name None inside next o e g =
     let c = one_of i id e in let z : times_given i next ≤ 0 = omega (arith, o, c) in
-    ap (Row id name None new) (sym (redir_none i new next z)) ∙ ap (λ b. Row id name None (cond b new (redir i new inside)) (redir i new next)) (sym (same_id id i (sym e)))
+    ap (Row id name None new) (sym (redir_none i new next z)) ∙ ap (λ b. Row id name None (cond b new (redir i new inside)) (redir i new next)) (sym (eq-eqb id i (sym e)))
 here i new id name (Some f) inside next o e g = absurd (cc)
 
 into : (i : ℕ) (new : Rows) (id : ℕ) (name : List ℕ) (file : Option File) (inside next : Rows) → times_given i (Row id name file inside next) ≤ 1 → file ≡ None → 1 ≤ times_given i inside
@@ -146,7 +112,7 @@ end_by change n i inner id name file inside next true o ih h = elim h [
 ]
 end_by change n i inner id name file inside next false o ih h = elim h [
   | inl a ↦ absurd (let z = a.0 in cc)
-  | inr a ↦ ap (Row id name file inside) (ih a.1) ∙ skip i (change inner) id name file inside next o (folder_times i inner next (lead_in n [] next i inner a.1))
+  | inr a ↦ ap (Row id name file inside) (ih a.1) ∙ skip i (change inner) id name file inside next o (directory_times i inner next (lead_in n [] next i inner a.1))
 ]
 
 on_by : (change : Rows → Rows) (n m : List ℕ) (ms : List (List ℕ)) (i : ℕ) (inner : Rows) (id : ℕ) (name : List ℕ) (file : Option File) (inside next : Rows) (b : Bool) → times_given i (Row id name file inside next) ≤ 1
@@ -156,12 +122,12 @@ on_by : (change : Rows → Rows) (n m : List ℕ) (ms : List (List ℕ)) (i : �
     → cond b (Row id name file (at (m ∷ ms) change inside) next) (Row id name file inside (at (n ∷ m ∷ ms) change next)) ≡ redir i (change inner) (Row id name file inside next)
 on_by change n m ms i inner id name file inside next true o ih ih2 h = elim h [
   | inl a ↦ (let d = dir_only m ms i inner id file inside a.1 in
-      ap (λ z. Row id name file z next) (ih d.1) ∙ into i (change inner) id name file inside next o d.0 (folder_times i inner inside (lead_in m ms inside i inner d.1)))
+      ap (λ z. Row id name file z next) (ih d.1) ∙ into i (change inner) id name file inside next o d.0 (directory_times i inner inside (lead_in m ms inside i inner d.1)))
   | inr a ↦ absurd (let z = a.0 in cc)
 ]
 on_by change n m ms i inner id name file inside next false o ih ih2 h = elim h [
   | inl a ↦ absurd (let z = a.0 in cc)
-  | inr a ↦ ap (Row id name file inside) (ih2 a.1) ∙ skip i (change inner) id name file inside next o (folder_times i inner next (lead_in n (m ∷ ms) next i inner a.1))
+  | inr a ↦ ap (Row id name file inside) (ih2 a.1) ∙ skip i (change inner) id name file inside next o (directory_times i inner next (lead_in n (m ∷ ms) next i inner a.1))
 ]
 
 pub path_redirs : (change : Rows → Rows) (n : List ℕ) (ns : List (List ℕ)) (rows : Rows) (i : ℕ) (inner : Rows) → Leads (n ∷ ns) rows i inner → times_given i rows ≤ 1 → at (n ∷ ns) change rows ≡ redir i (change inner) rows
@@ -239,7 +205,7 @@ module _ (order : List ℕ) (i : ℕ) (new : Rows) where
       = both fi fi_keeps (in_directory n (directory order inside)) (inside_rows order n inside) (in_directory n (directory order (redir i new inside))) (inside_rows order n (redir i new inside))
       (ap (in_directory n) (fi_directory inside) ∙ found fi fi_keeps n (directory order inside)) (fi_rows n inside (λ z h. k z (inr (inl h)))) in
       both fi fi_keeps (within n inside) (inside_rows order n next) (within n (cond (id == i) new (redir i new inside))) (inside_rows order n (redir i new next))
-      (within_cond n inside (redir i new inside) (id == i) (λ e. k inside (inl (sym (id_is id i e), refl))) d) (fi_rows n next (λ z h. k z (inr (inr h))))
+      (within_cond n inside (redir i new inside) (id == i) (λ e. k inside (inl (sym (eqb-true id i e), refl))) d) (fi_rows n next (λ z h. k z (inr (inr h))))
   fi_rows n (Row id name (Some f) inside next) k =
       both fi fi_keeps (in_file n id f) (inside_rows order n next) (in_file n id f) (inside_rows order n (redir i new next)) (file_stays fi fi_keeps n id f) (fi_rows n next k)
 

@@ -3,6 +3,7 @@ use Rattle.std.proofs.Common.{◌≡◌, ◌⊎◌, inl, inr, ℕ, ◌≤◌, Li
 use Rattle.std.specs.Prelude.{◌==◌}
 use Rattle.std.specs.Option.{option_map}
 use Rattle.std.specs.Str.{bytes_eq}
+use Rattle.std.proofs.lemmas.Bool.{eqb-true, eq-eqb}
 use Rattle.iris_name.specs.declared.name.FileId.{FileId}
 use Rattle.iris_name.specs.declared.name.Name.{Name}
 use Rattle.iris_name.specs.declared.name.Name.TheVariants.{Entry, Part, Block}
@@ -18,7 +19,7 @@ use Rattle.iris_table_laws.proofs.NamesByNumber.{number}
 use Rattle.iris_files.specs.Refiles.{refiled}
 use Rattle.iris_forest.specs.Places.{FileIn, IsTableFile}
 use Rattle.iris_forest.proofs.FilesInTable.{stands_once, file_times}
-use Rattle.iris_forest.proofs.Ids.{one_of, same_id, id_is, other_id, taken_eq, missing_here, through_here}
+use Rattle.iris_forest.proofs.Ids.{one_of, other_id, taken_eq, missing_here, through_here}
 use Rattle.iris_forest.proofs.NamesNowhere.{no_file}
 use Rattle.iris_forest.proofs.PathsInTable.{met_in}
 use Rattle.iris_forest.proofs.VersionsOfFile.{have_versions}
@@ -94,7 +95,7 @@ here change i f id name (Some k) inside next o e g =
     let q : k ≡ f = cc in let c = one_of i id e in let z : times_given i next ≤ 0 = omega (arith, o, c) in let y : times_given i inside ≤ 0 = omega (arith, o, c) in
     ap (λ y. Row id name (Some (change y)) inside next) q ∙ ap (Row id name (Some (change f)) inside) (sym (refile_none i (change f) next z))
     ∙ ap (λ w. Row id name (Some (change f)) w (refile i (change f) next)) (sym (refile_none i (change f) inside y))
-    ∙ ap (λ b. Row id name (Some (cond b (change f) k)) (refile i (change f) inside) (refile i (change f) next)) (sym (same_id i id e))
+    ∙ ap (λ b. Row id name (Some (cond b (change f) k)) (refile i (change f) inside) (refile i (change f) next)) (sym (eq-eqb i id e))
 
 into : (i : ℕ) (g : File) (id : ℕ) (name : List ℕ) (file : Option File) (inside next : Rows) → times_given i (Row id name file inside next) ≤ 1 → 1 ≤ times_given i inside
     → Row id name file (refile i g inside) next ≡ refile i g (Row id name file inside next)
@@ -167,7 +168,7 @@ module _ (order : List ℕ) (i : ℕ) (g : File) where
 
   re_leaf : (o : Own) (f : File) (a b : Unfolded) (t : Bool) → (i == o.id) ≡ t
       → Leaf o.id o.name a b (cond t g f).size (cond t g f).counter (versions o.id (cond t g f)) ≡ Leaf o.id o.name a b (cond t g.size f.size) (cond t g.counter f.counter) (cond t (versions i g) (versions o.id f))
-  re_leaf o f a b true e = ap (λ z. Leaf o.id o.name a b g.size g.counter (versions z g)) (sym (id_is i o.id e))
+  re_leaf o f a b true e = ap (λ z. Leaf o.id o.name a b g.size g.counter (versions z g)) (sym (eqb-true i o.id e))
   re_leaf o f a b false e = refl
 
   re_entry : (o : Own) (file : Option File) (a b : Unfolded) → entry_above (record { id = o.id; name = o.name; file = new_file i g o.id file; inside = re o.inside }) (new_file i g o.id file) (re a) (re b) ≡ re (entry_above o file a b)
@@ -195,7 +196,7 @@ module _ (order : List ℕ) (i : ℕ) (g : File) where
     other : (n : Name) (id : ℕ) → (i == id) ≡ true → (number n ≡ i → ⊥) → (number n == id) ≡ false
     other n id e o = by (number n == id) refl where
       by : (b : Bool) → (number n == id) ≡ b → b ≡ false
-      by true q = absurd (o (id_is (number n) id q ∙ sym (id_is i id e)))
+      by true q = absurd (o (eqb-true (number n) id q ∙ sym (eqb-true i id e)))
       by false q = refl
 
   re_file : (n : Name) (id : ℕ) (f : File) → IsBeside (id_of i) n → in_file n id (cond (i == id) g f) ≡ option_map re (in_file n id f)
@@ -229,7 +230,7 @@ refile_in : (i : ℕ) (f g : File) (rows : Rows) → FileIn i f rows → FileIn 
 refile_in i f g End h = absurd h
 refile_in i f g (Row id name None inside next) h = elim h [ inl a ↦ inl (refile_in i f g inside a) | inr a ↦ inr (refile_in i f g next a) ]
 refile_in i f g (Row id name (Some k) inside next) h = elim h [
-  | inl a ↦ inl (a.0, sym (ap (λ b. cond b g k) (same_id i id a.0)))
+  | inl a ↦ inl (a.0, sym (ap (λ b. cond b g k) (eq-eqb i id a.0)))
   | inr a ↦ inr (refile_in i f g next a)
 ]
 

@@ -4,6 +4,7 @@ use Rattle.std.specs.Prelude.{◌==◌, is_none, nat_le, nat_lt}
 use Rattle.std.specs.Option.{option_map}
 use Rattle.std.specs.Str.{bytes_eq}
 use Rattle.std.proofs.lemmas.Bool.Decides.{nat_tests}
+use Rattle.std.proofs.lemmas.Bool.{or_parts, or_right}
 use Rattle.iris_name.specs.Hmac.{priority}
 use Rattle.iris_name.specs.declared.name.Name.{Name}
 use Rattle.iris_name.specs.declared.name.Name.TheVariants.{Entry, Part, Block}
@@ -30,13 +31,14 @@ use Rattle.iris_rows.proofs.RisingNames.{before_other}
 use Rattle.iris_forest.specs.Hands.{IsHeld}
 use Rattle.iris_forest.specs.Places.{row_of_own, rows_of, DirectoryIn, IsTableDirectory}
 use Rattle.iris_forest.proofs.Ids.{one_of, turned, smaller_id, given, taken_eq}
+use Rattle.iris_forest.proofs.NamesElsewhere.{elsewhere}
+use Rattle.iris_forest.proofs.RowsInTable.{directory_times, one_directory}
 use Rattle.iris_forest.proofs.RowsOfDirectory.{arranged_same, have_rows, held_of}
 use Rattle.iris_plan_laws.specs.Blocks.{SameBlocks}
 use Rattle.iris_plan_laws.specs.Steps.{IsEmptyContent, MakesAreRows}
 use Rattle.iris_forest.specs.Places.{LeadsToDirectory}
-use Rattle.iris_plan_laws.proofs.DirectoryById.{redir, redir_none, folder_times, one_folder, redir_in, Leads, lead_in, path_redirs, fi, fi_keeps, within, Kept, fi_rows, fi_shown}
+use Rattle.iris_plan_laws.proofs.DirectoryById.{redir, redir_none, redir_in, Leads, lead_in, path_redirs, fi, fi_keeps, within, Kept, fi_rows, fi_shown}
 use Rattle.iris_plan_laws.proofs.MappedShown.{same_block}
-use Rattle.iris_plan_laws.proofs.RowByName.{or_parts, or_right}
 
 -- ---- the rows with one more, in both words
 
@@ -109,29 +111,6 @@ put_inside order n name id kind (Row i m file inside next) f = by (name_before n
   by true ih = new_brings order n id name kind (Row i m file inside next) f
   by false ih = more file (with_row name (record { id = id; file = kind; inside = End }) next) next ih
 
--- ---- an entry that is none of a directory's rows isn't found there
-
-none_over : (j : ℕ) (o : Own) (file : Option File) (l m : Unfolded) → (j == own_id o) ≡ false → entry_in j l ≡ None → entry_in j m ≡ None → entry_in j (entry_above o file l m) ≡ None
-none_over j o None l m e a b = ap (λ z. cond z (Some (entry_above o None l m)) (either (entry_in j l) (entry_in j m))) e ∙ ap (λ z. either z (entry_in j m)) a ∙ b
-none_over j o (Some f) l m e a b = ap (λ z. cond z (Some (entry_above o (Some f) l m)) (either (entry_in j l) (entry_in j m))) e ∙ ap (λ z. either z (entry_in j m)) a ∙ b
-
-none_in : (j : ℕ) (t : Treap Own) → Every (λ o. (j == own_id o) ≡ false) t → entry_in j (unfolded_entries t) ≡ None
-none_in j Empty e = refl
-none_in j (Over o l m) e = none_over j o o.file (unfolded_entries l) (unfolded_entries m) e.0 (none_in j l e.1) (none_in j m e.2)
-
-off_owns : (order : List ℕ) (j : ℕ) (rows : Rows) → has_id j (rows_of order rows) ≡ false → Each (λ o. (j == own_id o) ≡ false) (owns order rows)
-off_owns order j End e = tt
-off_owns order j (Row id name file inside next) e = let p = or_parts (id == j) (has_id j (rows_of order next)) e in (turned id j p.0, off_owns order j next p.1)
-
-pub not_there : (order : List ℕ) (j : ℕ) (rows : Rows) → has_id j (rows_of order rows) ≡ false → entry_in j (directory order rows) ≡ None
-unfolding directory
-not_there order j rows e = none_in j (treap (beside (priority order) own_id) (owns order rows)) (every_treap (λ o. (j == own_id o) ≡ false) (beside (priority order) own_id) (owns order rows) (off_owns order j rows e))
-
-pub elsewhere : (order : List ℕ) (n : Name) (rows others : Rows) → IsElsewhere (rows_of order rows) (rows_of order others) n → (in_directory n (directory order rows) ≡ None) × (in_directory n (directory order others) ≡ None)
-elsewhere order (Entry j) rows others h = (not_there order j.0 rows h.0, not_there order j.0 others h.1)
-elsewhere order (Part f l j) rows others h = (refl, refl)
-elsewhere order (Block f p) rows others h = absurd h
-
 -- rows that were there are there
 or_mono : (a b c : Bool) → (b ≡ true → c ≡ true) → (a || b) ≡ true → (a || c) ≡ true
 or_mono true b c f e = refl
@@ -198,11 +177,11 @@ root_place t u change i inner s g e a b c = subst (λ z. Place t u z inner (chan
   only z h = elim h [
     | inl x ↦ x.1
     | inr r ↦ elim r [
-      | inl x ↦ absurd (let p = folder_times 0 z t.visible x in let q = zeros_are.0 in omega (arith, p, q))
+      | inl x ↦ absurd (let p = directory_times 0 z t.visible x in let q = zeros_are.0 in omega (arith, p, q))
       | inr y ↦ elim y [
         | inl x ↦ absurd (let p : 0 ≡ 1 = x.0 in omega (arith, p))
         | inr w ↦ elim w [
-          | inl x ↦ absurd (let p = folder_times 0 z t.trash x in let q = zeros_are.1 in omega (arith, p, q))
+          | inl x ↦ absurd (let p = directory_times 0 z t.trash x in let q = zeros_are.1 in omega (arith, p, q))
           | inr x ↦ absurd (subst (DirectoryIn 0 z) g x)
         ]
       ]
@@ -244,7 +223,7 @@ path_place t u change n ns i inner s g e a b c = record {
     within_is = lead_in n ns t.visible i inner e
 
     some : 1 ≤ times_given i t.visible
-    some = folder_times i inner t.visible within_is
+    some = directory_times i inner t.visible within_is
 
     few : times_given i t.visible ≤ 1
     few = let o = held_once t i s in omega (arith, o)
@@ -262,11 +241,11 @@ path_place t u change n ns i inner s g e a b c = record {
     only z h = elim h [
       | inl x ↦ absurd (let p : i ≡ 0 = x.0 in let q = big in omega (arith, p, q))
       | inr r ↦ elim r [
-        | inl x ↦ one_folder i z inner t.visible few x within_is
+        | inl x ↦ one_directory i z inner t.visible few x within_is
         | inr y ↦ elim y [
           | inl x ↦ absurd (let p : i ≡ 1 = x.0 in let q = big in omega (arith, p, q))
           | inr w ↦ elim w [
-            | inl x ↦ absurd (let p = folder_times i z t.trash x in let q = trash_none in omega (arith, p, q))
+            | inl x ↦ absurd (let p = directory_times i z t.trash x in let q = trash_none in omega (arith, p, q))
             | inr x ↦ absurd (subst (DirectoryIn i z) g x)
           ]
         ]
@@ -285,7 +264,7 @@ kept order t u i inner new n p a b e z h = subst (λ q. within order i new n new
   same = ap (inside_rows order n) (redir_none i new inner p.none)
 
   none : (z : Rows) → DirectoryIn i z inner → within order i new n new ≡ option_map (fi order i new) (within order i new n z)
-  none z h = absurd (let a = folder_times i z inner h in let b = p.none in omega (arith, a, b))
+  none z h = absurd (let a = directory_times i z inner h in let b = p.none in omega (arith, a, b))
 
   here : within order i new n new ≡ option_map (fi order i new) (within order i new n inner)
   here = ap (λ q. either q (inside_rows order n new)) b ∙ e ∙ sym same ∙ fi_rows order i new n inner none ∙ ap (λ q. option_map (fi order i new) (either q (inside_rows order n inner))) (sym a)

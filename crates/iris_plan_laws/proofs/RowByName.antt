@@ -2,6 +2,7 @@
 use Rattle.std.proofs.Common.{◌≡◌, ◌≢◌, ◌⊎◌, inl, inr, ℕ, ◌≤◌, List, [], ◌∷◌, Bool, true, false, not, ◌&&◌, ◌||◌, cond, Option, Some, None, refl, sym, ◌∙◌, ap, subst, arith}
 use Rattle.std.specs.Prelude.{◌==◌}
 use Rattle.std.specs.Str.{bytes_eq}
+use Rattle.std.proofs.lemmas.Bool.{eqb-true, eq-eqb, or_left, or_right, or_from, or_parts, or_cases}
 use Rattle.iris_plain.specs.Routes.{is_name_before as name_before}
 use Rattle.iris_shape.specs.Order.{less_name}
 use Rattle.iris_shape.specs.Treap.{rows_without as tree_without}
@@ -14,29 +15,9 @@ use Rattle.iris_records.specs.Walks.{IsRising}
 use Rattle.iris_records.proofs.TreapOfRows.{less_before}
 use Rattle.iris_rows.proofs.RowsByName.{same_tells}
 use Rattle.iris_forest.specs.Places.{rows_of, DirectoryIn}
-use Rattle.iris_forest.proofs.Ids.{same_id, id_is, other_id, turned}
+use Rattle.iris_forest.proofs.Ids.{other_id, turned}
 use Rattle.iris_forest.proofs.RowsOfDirectory.{tops, insides, times_parts, above_through}
 use Rattle.iris_plan_laws.specs.Takes.{tree_row}
-
-pub or_left : (a b : Bool) → a ≡ true → (a || b) ≡ true
-or_left true b e = refl
-or_left false b e = absurd (cc)
-
-pub or_right : (a b : Bool) → b ≡ true → (a || b) ≡ true
-or_right true b e = refl
-or_right false b e = e
-
-pub or_parts : (a b : Bool) → (a || b) ≡ false → (a ≡ false) × (b ≡ false)
-or_parts true b e = absurd (cc)
-or_parts false b e = (refl, e)
-
-or_cases : (a b : Bool) → (a || b) ≡ true → (a ≡ true) ⊎ (b ≡ true)
-or_cases true b e = inl refl
-or_cases false b e = inr e
-
-or_false : (a b : Bool) → a ≡ false → b ≡ false → (a || b) ≡ false
-or_false true b e f = absurd (cc)
-or_false false b e f = f
 
 -- ---- where a row stands
 
@@ -91,7 +72,7 @@ put_row n x (Row id name file inside next) = by (name_before n name) (put_row n 
 
 pub tops_has : (order : List ℕ) (j : ℕ) (rows : Rows) → tops j rows ≤ 0 → has_id j (rows_of order rows) ≡ false
 tops_has order j End z = refl
-tops_has order j (Row id name file inside next) z = or_false (id == j) (has_id j (rows_of order next)) (turned j id (other_id j id (omega (arith, z)))) (tops_has order j next (omega (arith, z)))
+tops_has order j (Row id name file inside next) z = or_from (id == j) (has_id j (rows_of order next)) (turned j id (other_id j id (omega (arith, z)))) (tops_has order j next (omega (arith, z)))
 
 -- ---- the rows without one, in both words
 
@@ -145,7 +126,7 @@ went order n j (Row id name file inside next) x e a b = by (bytes_eq n name) e b
   by : (c : Bool) → cond c (Some (record { id = id; file = file; inside = inside })) (find n next) ≡ Some x → has_id j (rows_of order (cond c next (Row id name file inside (without_row n next)))) ≡ false
       → (find n next ≡ Some x → has_id j (rows_of order next) ≡ true → has_id j (rows_of order (without_row n next)) ≡ false → j ≡ x.id) → (((id == j) ≡ true) ⊎ (has_id j (rows_of order next) ≡ true)) → j ≡ x.id
   by true e b ih h = elim h [
-    | inl g ↦ (let q : id ≡ x.id = (let w : record { id = id; file = file; inside = inside } ≡ x = cc in ap (λ (z : Taken). z.id) w) in sym (id_is id j g) ∙ q)
+    | inl g ↦ (let q : id ≡ x.id = (let w : record { id = id; file = file; inside = inside } ≡ x = cc in ap (λ (z : Taken). z.id) w) in sym (eqb-true id j g) ∙ q)
     | inr g ↦ absurd (cc)
   ]
   by false e b ih h = let p = or_parts (id == j) (has_id j (rows_of order (without_row n next))) b in elim h [ inl g ↦ absurd (let y = p.0 in cc) | inr g ↦ ih e g p.1 ]
@@ -167,12 +148,12 @@ pub found_has : (order n : List ℕ) (rows : Rows) (x : Taken) → find n rows �
 found_has order n End x e = absurd (cc)
 found_has order n (Row id name file inside next) x e = by (bytes_eq n name) e (λ h. found_has order n next x h) where
   by : (b : Bool) → cond b (Some (record { id = id; file = file; inside = inside })) (find n next) ≡ Some x → (find n next ≡ Some x → has_id x.id (rows_of order next) ≡ true) → ((id == x.id) || has_id x.id (rows_of order next)) ≡ true
-  by true e ih = let q : record { id = id; file = file; inside = inside } ≡ x = cc in or_left (id == x.id) (has_id x.id (rows_of order next)) (same_id id x.id (ap (λ (z : Taken). z.id) q))
+  by true e ih = let q : record { id = id; file = file; inside = inside } ≡ x = cc in or_left (id == x.id) (has_id x.id (rows_of order next)) (eq-eqb id x.id (ap (λ (z : Taken). z.id) q))
   by false e ih = or_right (id == x.id) (has_id x.id (rows_of order next)) (ih e)
 
 pub put_has : (order n : List ℕ) (x : Taken) (rows : Rows) → has_id x.id (rows_of order (with_row n x rows)) ≡ true
-put_has order n x End = or_left (x.id == x.id) false (same_id x.id x.id refl)
+put_has order n x End = or_left (x.id == x.id) false (eq-eqb x.id x.id refl)
 put_has order n x (Row id name file inside next) = by (name_before n name) (put_has order n x next) where
   by : (b : Bool) → has_id x.id (rows_of order (with_row n x next)) ≡ true → has_id x.id (rows_of order (cond b (Row x.id n x.file x.inside (Row id name file inside next)) (Row id name file inside (with_row n x next)))) ≡ true
-  by true ih = or_left (x.id == x.id) _ (same_id x.id x.id refl)
+  by true ih = or_left (x.id == x.id) _ (eq-eqb x.id x.id refl)
   by false ih = or_right (id == x.id) (has_id x.id (rows_of order (with_row n x next))) ih

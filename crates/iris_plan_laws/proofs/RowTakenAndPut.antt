@@ -3,7 +3,7 @@ use Rattle.std.proofs.Common.{◌≡◌, ◌⊎◌, inl, inr, ℕ, ◌+◌, ◌�
 use Rattle.std.specs.Prelude.{◌==◌, nat_le, nat_lt}
 use Rattle.std.specs.Option.{option_map}
 use Rattle.std.specs.Str.{bytes_eq}
-use Rattle.std.proofs.lemmas.Bool.{cases_lt}
+use Rattle.std.proofs.lemmas.Bool.{cases_lt, eqb-true}
 use Rattle.std.proofs.lemmas.Bool.Decides.{nat_tests}
 use Rattle.iris_name.specs.declared.name.FileId.{FileId}
 use Rattle.iris_name.specs.declared.name.Name.{Name}
@@ -22,14 +22,16 @@ use Rattle.iris_rows.specs.Sound.{times_given}
 use Rattle.iris_table_laws.proofs.NamesByNumber.{number}
 use Rattle.iris_forest.specs.Hands.{IsHeld}
 use Rattle.iris_forest.specs.Places.{LeadsToDirectory, rows_of, IsTableDirectory}
-use Rattle.iris_forest.proofs.Ids.{one_of, id_is, at_most, given, either_first, either_last, taken_eq}
+use Rattle.iris_forest.proofs.Ids.{one_of, at_most, given, either_first, either_last, taken_eq}
+use Rattle.iris_forest.proofs.NamesElsewhere.{elsewhere, not_there}
+use Rattle.iris_forest.proofs.RowsInTable.{directory_times}
 use Rattle.iris_forest.proofs.NamesNowhere.{inside_none, below_none, shown_rows}
 use Rattle.iris_forest.proofs.RowsOfDirectory.{arranged_same, held_rows, level, times_parts}
 use Rattle.iris_plan_laws.specs.Blocks.{SameBlocks}
 use Rattle.iris_plan_laws.specs.Takes.{tree_row, TakesOut, PutsIn, TakesAreRows, PutsAreRows}
-use Rattle.iris_plan_laws.proofs.DirectoryById.{redir, redir_none, redir_in, lead_in, path_redirs, folder_times, fi, fi_keeps, fi_rows, fi_shown}
+use Rattle.iris_plan_laws.proofs.DirectoryById.{redir, redir_none, redir_in, lead_in, path_redirs, fi, fi_keeps, fi_rows, fi_shown}
 use Rattle.iris_plan_laws.proofs.MappedShown.{same_block}
-use Rattle.iris_plan_laws.proofs.NewRow.{Place, place, kept, elsewhere, put_rows, still_there, not_there}
+use Rattle.iris_plan_laws.proofs.NewRow.{Place, place, kept, put_rows, still_there}
 use Rattle.iris_plan_laws.proofs.RowByName.{RowAt, alone, row_times, row_insides, find_row, row_through, put_row, tops_has, rows_of_without, went, any_found, found_has, put_has}
 
 -- a row, and those after it
@@ -44,7 +46,7 @@ module _ (order : List ℕ) (m : Name) (k : ℕ) (kind : Option File) (ins : Row
     off : (j : FileId) → (Entry j ≡ Entry (id_of k) → ⊥) → cond (j.0 == k) 1 0 ≤ 0
     off j n = by (j.0 == k) refl where
       by : (b : Bool) → (j.0 == k) ≡ b → cond b 1 0 ≤ 0
-      by true e = absurd (n (ap (λ z. Entry (id_of z)) (id_is j.0 k e)))
+      by true e = absurd (n (ap (λ z. Entry (id_of z)) (eqb-true j.0 k e)))
       by false e = omega arith
 
     by : (m : Name) → (m ≡ Entry (id_of k) → ⊥) → 1 ≤ times_given (number m) (alone k kind ins) → times_given (number m) rows ≤ 1 → in_directory m (directory order rows) ≡ None
@@ -123,7 +125,7 @@ shown_handless order t m e =
 -- a directory that doesn't stand in a row changes nothing there
 row_stays : (order : List ℕ) (i : ℕ) (new : Rows) (m : Name) (rows : Rows) → times_given i rows ≤ 0 → inside_rows order m rows ≡ option_map (fi order i new) (inside_rows order m rows)
 row_stays order i new m rows z =
-    sym (ap (inside_rows order m) (redir_none i new rows z)) ∙ fi_rows order i new m rows (λ y g. absurd (let c = folder_times i y rows g in omega (arith, c, z)))
+    sym (ap (inside_rows order m) (redir_none i new rows z)) ∙ fi_rows order i new m rows (λ y g. absurd (let c = directory_times i y rows g in omega (arith, c, z)))
 
 few_or : (a : ℕ) → (a ≤ 0) ⊎ (1 ≤ a)
 few_or a = elim (cases_lt 0 a) [ inl x ↦ inr (omega (arith, x)) | inr x ↦ inl x ]
@@ -184,7 +186,7 @@ not_in_hand t [] i inner s e =
       zero : (a : Bool) → nat_le 2 0 ≡ a → (b : Bool) → times_given 0 t.visible + (times_given 0 t.trash + times_given 0 t.hand) ≤ cond (a && b) 1 0 → times_given 0 t.hand ≤ 0
       zero true e b h = absurd (let k : 2 ≤ 0 = grind (arith, nat_tests) in omega (arith, k))
       zero false e b h = omega (arith, h)
-not_in_hand t (n ∷ ns) i inner s e = let c = folder_times i inner t.visible (lead_in n ns t.visible i inner e) in let o = all_once t i s in omega (arith, c, o)
+not_in_hand t (n ∷ ns) i inner s e = let c = directory_times i inner t.visible (lead_in n ns t.visible i inner e) in let o = all_once t i s in omega (arith, c, o)
 
 -- ---- taking out
 

@@ -21,10 +21,6 @@ nothing_ahead true [] = refl
 nothing_ahead true (m ∷ q) = refl
 nothing_ahead false q = refl
 
-not_both : (b c : Bool) → b && c ≡ false → b ≡ true → c ≡ false
-not_both true c e h = e
-not_both false c e h = absurd (cc)
-
 -- a directory beside whose path the row stands keeps its rows
 stays : (q taken : List (List ℕ)) (dir : Taken) → is_front q taken ≡ false → Here dir ≡ Here (holding (left_below q taken dir.inside) dir)
 stays q taken dir e = ap (λ b. Here (holding (cond b (at (parent (rest q taken)) (without_row (last taken)) dir.inside) dir.inside) dir)) (sym e)
