@@ -1,5 +1,5 @@
 -- What the definitions hold of, and what near by they don't.
-use Rattle.std.proofs.Common.{◌≡◌, ℕ, ◌+◌, ◌<◌, ◌≤◌, List, [], ◌∷◌, Bool, true, false, ◌||◌, cond, Option, Some, None, refl, ◌∙◌, ap, arith}
+use Rattle.std.proofs.Common.{◌≡◌, ℕ, ◌+◌, ◌<◌, ◌≤◌, List, [], ◌∷◌, Bool, true, false, ◌||◌, cond, Option, Some, None, refl, ◌∙◌, ap, arith, sym, subst}
 use Rattle.std.specs.Prelude.{◌==◌, codes}
 use Rattle.std.proofs.lemmas.Bool.Decides.{nat_tests}
 use Rattle.iris_name.specs.declared.name.FileId.{FileId}
@@ -8,17 +8,26 @@ use Rattle.iris_name.specs.declared.request.Request.TheVariants.{Mkdir, Create, 
 use Rattle.iris_name.specs.Paths.{names_of}
 use Rattle.iris_node.specs.Trees.{Shown}
 use Rattle.iris_node.specs.Unfolded.{Unfolded, Stored, id_of}
-use Rattle.iris_rows.specs.Changes.{after_requests}
+use Rattle.iris_rows.specs.Changes.{after_requests, stepped, row_moved}
+use Rattle.iris_records.specs.Shown.{shown}
+use Rattle.iris_rows.specs.Sound.{IsSound}
 use Rattle.iris_rows.specs.FileChanges.{is_touched}
 use Rattle.iris_rows.specs.Rows.{File, Rows, End, Row, Table, Taken, Found, Here, root_row, met, empty_table, empty_file, zeros}
 use Rattle.iris_shape.specs.FoldLaws.{with_range_set}
 use Rattle.iris_forest.proofs.Ids.{taken_eq}
-use Rattle.iris_plan_laws.specs.Begun.{IsAtFile}
+use Rattle.iris_cache.specs.Resident.{Resident}
+use Rattle.iris_cache.specs.Drafted.{Drafted, taken_away}
+use Rattle.iris_cache.specs.Pictures.{Pictures}
+use Rattle.iris_rows.proofs.SoundStep.{sound_kept, sound_empty}
+use Rattle.iris_plan_laws.specs.Begun.{IsAtFile, IsPictured, PlanBegins}
 use Rattle.iris_plan_laws.specs.Blocks.{SameBlocks, ChangesBlocks, AreAmong, is_cut_at, IsOfRows}
 use Rattle.iris_plan_laws.specs.FileChanges.{emptied_past}
 use Rattle.iris_plan_laws.specs.Makes.{making}
 use Rattle.iris_plan_laws.specs.Moves.{in_hand, left_below}
 use Rattle.iris_plan_laws.specs.Steps.{IsEmptyContent}
+use Rattle.iris_plan_laws.specs.Takes.{TakesOut, PutsIn}
+use Rattle.iris_plan_laws.proofs.AcceptedRequests.{IsMove, accepted_move, moved_step}
+use Rattle.iris_plan_laws.proofs.MovedRow.{HalvesOfMove, halves_of_move}
 
 -- ---- new content
 
@@ -144,3 +153,68 @@ of_rows = tt
 
 of_bytes : IsOfRows (Write (codes "/f") 0 []) → ⊥
 of_bytes h = h
+
+-- ---- how a plan begins
+
+abbrev no_nodes : Resident
+no_nodes = record { nodes = []; room = [] }
+
+abbrev no_changes : Drafted
+no_changes = record { changes = [] }
+
+-- an empty cache pictures each table
+pictures_all : (t : Shown) → Pictures t no_nodes
+pictures_all t = record {
+  nodes = λ n h e. absurd (cc);
+  hashes = λ n m h x e. absurd (cc);
+  parents = λ n p h e. absurd (cc);
+  tied = λ n p h e. absurd (cc);
+  rising = λ n p h g e. absurd (cc);
+}
+
+is_pictured : (order : List ℕ) → IsPictured order empty_table no_changes no_nodes
+is_pictured order = record { sound = sound_empty; pictures = pictures_all (shown order empty_table); empty = λ n. refl }
+
+-- with a change the draft isn't empty
+with_a_change : (order : List ℕ) (c : Resident) → IsPictured order empty_table (record { changes = (Entry (id_of 2), taken_away) ∷ [] }) c → ⊥
+with_a_change order c h = let e = h.empty (Entry (id_of 2)) in absurd (cc)
+
+begins : (order : List ℕ) → PlanBegins order empty_table (Mkdir (codes "/a")) no_changes no_nodes
+unfolding names_of
+begins order = record { pictured = is_pictured order; accepted = refl }
+
+-- the root is there already
+begins_no_root : (order : List ℕ) (d : Drafted) (c : Resident) → PlanBegins order empty_table (Mkdir (codes "/")) d c → ⊥
+unfolding names_of
+begins_no_root order d c h = let e = h.accepted in absurd (cc)
+
+-- ---- a row taken out, and put in
+
+abbrev making_two : Table
+making_two = after_requests empty_table (Mkdir (codes "/a") ∷ Create (codes "/a/f") ∷ [])
+
+two_sound : IsSound making_two
+two_sound = sound_kept (stepped empty_table (Mkdir (codes "/a"))) (Create (codes "/a/f")) (sound_kept empty_table (Mkdir (codes "/a")) sound_empty)
+
+is_move : IsMove making_two (codes "a" ∷ codes "f" ∷ []) (codes "g" ∷ [])
+unfolding names_of
+is_move = accepted_move making_two (codes "/a/f") (codes "/g") (codes "a" ∷ codes "f" ∷ []) (codes "g" ∷ []) refl refl refl
+
+moved_sound : IsSound (row_moved (codes "a" ∷ codes "f" ∷ []) (codes "g" ∷ []) making_two (Here is_move.row))
+unfolding names_of
+moved_sound =
+    subst IsSound (moved_step making_two (codes "/a/f") (codes "/g") (codes "a" ∷ codes "f" ∷ []) (codes "g" ∷ []) is_move.row refl refl refl is_move.here) (sound_kept making_two (Rename (codes "/a/f") (codes "/g")) two_sound)
+
+halves : HalvesOfMove making_two (codes "a" ∷ codes "f" ∷ []) (codes "g" ∷ []) is_move.row
+halves = halves_of_move making_two (codes "a") (codes "f" ∷ []) (codes "g" ∷ []) is_move two_sound moved_sound
+
+taken : TakesOut making_two (in_hand (codes "a" ∷ codes "f" ∷ []) is_move.row making_two) (codes "a" ∷ []) (codes "f") halves.out halves.rows is_move.row
+taken = halves.takes
+
+-- nothing is taken out where nothing is in hand
+not_taken : (t : Table) (names : List (List ℕ)) (name : List ℕ) (i : ℕ) (rows : Rows) (row : Taken) → TakesOut t t names name i rows row → ⊥
+not_taken t names name i rows row h = let e : End ≡ Row row.id name row.file row.inside End = sym h.empty ∙ h.hand in absurd (cc)
+
+-- nor put in
+not_put : (t : Table) (names : List (List ℕ)) (name label : List ℕ) (i : ℕ) (rows : Rows) (row : Taken) → PutsIn t t names name label i rows row → ⊥
+not_put t names name label i rows row h = let e : End ≡ Row row.id name row.file row.inside End = sym h.empty ∙ h.hand in absurd (cc)

@@ -4,33 +4,31 @@ use Rattle.std.specs.Prelude.{◌==◌, is_none, nat_le, nat_lt}
 use Rattle.std.specs.Option.{option_map}
 use Rattle.std.specs.Str.{bytes_eq}
 use Rattle.std.proofs.lemmas.Bool.Decides.{nat_tests}
-use Rattle.std.proofs.lemmas.Bool.{or_parts, or_right}
-use Rattle.iris_name.specs.Hmac.{priority}
+use Rattle.std.proofs.lemmas.Bool.{or_right}
 use Rattle.iris_name.specs.declared.name.Name.{Name}
 use Rattle.iris_name.specs.declared.name.Name.TheVariants.{Entry, Part, Block}
 use Rattle.iris_node.specs.Unfolded.{Unfolded, Even, id_of}
 use Rattle.iris_plain.specs.Routes.{parent, last, is_name_before as name_before}
 use Rattle.iris_shape.specs.Local.{either}
-use Rattle.iris_shape.specs.Order.{beside, less_name}
+use Rattle.iris_shape.specs.Order.{less_name}
 use Rattle.iris_shape.specs.Sides.{unfolded_side}
-use Rattle.iris_shape.specs.Treap.{Treap, Empty, Over, treap, rows_with as tree_put, keep, skip, Each, Every}
+use Rattle.iris_shape.specs.Treap.{rows_with as tree_put, keep, skip}
 use Rattle.iris_shape.proofs.FoldProofs.{folded_even}
 use Rattle.iris_shape.proofs.Orders.{less_not, less_through}
-use Rattle.iris_shape.proofs.Treaps.{every_treap}
 use Rattle.iris_treepaths.specs.Rows.{has_id, IsElsewhere, Rearranges}
 use Rattle.iris_treepaths.specs.Rows as tree
 use Rattle.iris_treepaths.specs.Ways.{is_row_before}
 use Rattle.iris_paths.specs.Making.{new_row}
 use Rattle.iris_rows.specs.Rows.{File, Rows, End, Row, Table, Taken, find, with_row, at, empty_file}
 use Rattle.iris_rows.specs.Changes.{made}
-use Rattle.iris_records.specs.Shown.{Own, own_id, entry_above, unfolded_entries, treap_of_entries, owns, directory, entry_in, part_in, in_directory, in_file, inside_rows, roots, shown, versions}
+use Rattle.iris_records.specs.Shown.{treap_of_entries, owns, directory, part_in, in_directory, in_file, inside_rows, roots, shown, versions}
 use Rattle.iris_rows.specs.Sound.{IsSound, times_given}
 use Rattle.iris_records.proofs.TreapOfRows.{less_before}
 use Rattle.iris_rows.proofs.RowsByName.{past}
 use Rattle.iris_rows.proofs.RisingNames.{before_other}
 use Rattle.iris_forest.specs.Hands.{IsHeld}
 use Rattle.iris_forest.specs.Places.{row_of_own, rows_of, DirectoryIn, IsTableDirectory}
-use Rattle.iris_forest.proofs.Ids.{one_of, turned, smaller_id, given, taken_eq}
+use Rattle.iris_forest.proofs.Ids.{one_of, smaller_id, given, taken_eq}
 use Rattle.iris_forest.proofs.NamesElsewhere.{elsewhere}
 use Rattle.iris_forest.proofs.RowsInTable.{directory_times, one_directory}
 use Rattle.iris_forest.proofs.RowsOfDirectory.{arranged_same, have_rows, held_of}
