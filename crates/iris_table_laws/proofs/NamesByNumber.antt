@@ -116,7 +116,7 @@ equal_one a b e = by (a == b) refl where
   by true g = omega arith
   by false g = absurd (grind (arith, nat_tests))
 
-file_weight : (n : Name) (id : ℕ) (f : File) → cond (same_name n (Entry (id_of id))) 1 0 + many n (nest (versions id f)) ≤ cond (number n == id) 1 0
+pub file_weight : (n : Name) (id : ℕ) (f : File) → cond (same_name n (Entry (id_of id))) 1 0 + many n (nest (versions id f)) ≤ cond (number n == id) 1 0
 file_weight (Entry j) id f = let e = no_entry j id 16 0 (folded f.version 16 0) in omega (arith, e)
 file_weight (Block g p) id f = let e = no_block g p id 16 0 (folded f.version 16 0) in omega (arith, e)
 file_weight (Part g l i) id f = by (parts_once g l i id 16 0 (folded f.version 16 0) (folded_halved f.version 16)) where

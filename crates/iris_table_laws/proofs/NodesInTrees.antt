@@ -113,7 +113,7 @@ parts_stand g l i id f w e = by (g.0 == id) refl e where
   by true h e = part_stands g l i id 16 0 (folded f.version 16 0) w h e
   by false h e = absurd (cc)
 
-file_stands : (n : Name) (id : ℕ) (f : File) (w : Unfolded) → in_file n id f ≡ Some w → Stands n w (nest (versions id f))
+pub file_stands : (n : Name) (id : ℕ) (f : File) (w : Unfolded) → in_file n id f ≡ Some w → Stands n w (nest (versions id f))
 file_stands (Entry i) id f w e = absurd (cc)
 file_stands (Part g l i) id f w e = elim (either_of (in_parts (Part g l i) id (versions id f)) None w e) [ inl s ↦ parts_stand g l i id f w s | inr s ↦ absurd (cc) ]
 file_stands (Block g p) id f w e = by (g.0 == id) e where

@@ -209,7 +209,7 @@ root_counts (Entry j) id = omega arith
 root_counts (Part g l i) id = omega arith
 root_counts (Block g p) id = omega arith
 
-few : (i next a b x y : ℕ) → x + y ≤ cond (nat_le 2 i && nat_lt i next) 1 0 → a ≤ cond (i == 0) 1 0 → b ≤ cond (i == 1) 1 0 → (a + x) + (b + y) ≤ 1
+pub few : (i next a b x y : ℕ) → x + y ≤ cond (nat_le 2 i && nat_lt i next) 1 0 → a ≤ cond (i == 0) 1 0 → b ≤ cond (i == 1) 1 0 → (a + x) + (b + y) ≤ 1
 few i next a b x y h k l = by (nat_le 2 i) refl (nat_lt i next) h (i == 0) refl k (i == 1) refl l where
   by : (p : Bool) → nat_le 2 i ≡ p → (q : Bool) → x + y ≤ cond (p && q) 1 0 → (r : Bool) → (i == 0) ≡ r → a ≤ cond r 1 0 → (s : Bool) → (i == 1) ≡ s → b ≤ cond s 1 0 → (a + x) + (b + y) ≤ 1
   by true e q h true f k s g l = absurd (let u : 2 ≤ i = grind (arith, nat_tests) in let v : i ≡ 0 = grind (arith, nat_tests) in omega (arith, u, v))

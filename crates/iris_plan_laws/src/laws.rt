@@ -1,0 +1,70 @@
+//! What a request makes of a table, in the words of the plans, and what goes through them.
+
+ghost use Rattle.iris_plan_laws.specs.Blocks.{RowsKeepBlocks, WritesChangeBlocks, ResizesChangeBlocks};
+ghost use Rattle.iris_plan_laws.specs.FileChanges.{BetweenIsSound, WritesGoThrough, ResizesGoThrough};
+ghost use Rattle.iris_plan_laws.specs.Makes.{MakesGoThrough};
+ghost use Rattle.iris_plan_laws.specs.Moves.{HandsAreHeld, NamesLeadOn, NoNameComes, MovesGoThrough};
+ghost use Rattle.iris_plan_laws.specs.Replies.{ListsAreReplies, StatsAreReplies};
+ghost use Rattle.iris_plan_laws.specs.Steps.{FilesAreRefiled, MakesAreRows};
+ghost use Rattle.iris_plan_laws.specs.Takes.{TakesAreRows, PutsAreRows};
+
+/// A change of the file at a path is one of its length, its counter and its versions.
+pub fn files_are_refiled()
+    ensures { FilesAreRefiled }
+{}
+
+/// What is made is one row more in its directory.
+pub fn makes_are_rows()
+    ensures { MakesAreRows }
+{}
+
+/// A row goes from a directory into the hand, and comes from it into a directory.
+pub fn rows_go_and_come()
+    ensures take { TakesAreRows }
+    ensures puts { PutsAreRows }
+{}
+
+/// A row of a sound table is taken into the hand. Names that don't go through it lead on, and no name comes.
+pub fn rows_are_left()
+    ensures held { HandsAreHeld }
+    ensures leads { NamesLeadOn }
+    ensures names { NoNameComes }
+{}
+
+/// Which blocks a request changes: none where rows are made or moved, and at most 65 of a file that is written or cut.
+pub fn blocks_change()
+    ensures rows { RowsKeepBlocks }
+    ensures writes { WritesChangeBlocks }
+    ensures resizes { ResizesChangeBlocks }
+{}
+
+/// The table between the two steps of a cut is sound.
+pub fn between_is_sound()
+    ensures { BetweenIsSound }
+{}
+
+/// What a request makes goes through: the plan leaves a draft that pictures the next table.
+pub fn makes_go_through()
+    ensures { MakesGoThrough }
+{}
+
+/// So does what it moves.
+pub fn moves_go_through()
+    ensures { MovesGoThrough }
+{}
+
+/// So does what it writes.
+pub fn writes_go_through()
+    ensures { WritesGoThrough }
+{}
+
+/// So does what it cuts or fills up.
+pub fn resizes_go_through()
+    ensures { ResizesGoThrough }
+{}
+
+/// What the plans that read paths answer is the table's reply.
+pub fn reads_are_replies()
+    ensures lists { ListsAreReplies }
+    ensures stats { StatsAreReplies }
+{}
