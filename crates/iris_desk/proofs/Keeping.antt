@@ -5,8 +5,8 @@ use Rattle.std.specs.Option.{option_map, option_and_then, option_map_or, OnSome,
 use Rattle.std.specs.List.{IsDistinct}
 use Rattle.std.proofs.lemmas.Bool.{eqb-true, cases_lt}
 use Rattle.std.proofs.lemmas.List.{length-map, length-set, length-replicate}
-use Rattle.std.proofs.lemmas.List.Elements.{All-set, All-map, All-weaker, All-replicate}
-use Rattle.std.proofs.lemmas.Option.{slice_get-map, slice_get-get_or, slice_get_past, slice_get_read}
+use Rattle.std.proofs.lemmas.List.Elements.{All-set, All-map, All-weaker, All-replicate, All-get_or}
+use Rattle.std.proofs.lemmas.Option.{slice_get-map, slice_get-get_or, slice_get_past, slice_get_read, slice_get_within, get_or_from_slice_get}
 use Rattle.iris_name.specs.Names.{same_name}
 use Rattle.iris_name.specs.NameLaws.{same_name-true}
 use Rattle.iris_name.specs.declared.name.Name.{Name}
@@ -176,3 +176,7 @@ empty_sound k names is once = record {
   apart = λ n w v o p a b. absurd (let g = none_at_empty k w n in cc);
   once = once;
 }
+
+-- what a desk keeps
+pub desk_sound : (d : DesksState) (w : ℕ) (x : DeskState) → AreDesksSound d → desk_at d w ≡ Some x → IsDeskSound x
+desk_sound d w x s at = subst IsDeskSound (get_or_from_slice_get d.desks w x x at) (All-get_or IsDeskSound d.desks w x (slice_get_within d.desks w x at) s.each)

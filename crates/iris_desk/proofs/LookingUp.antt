@@ -11,13 +11,19 @@ use Rattle.iris_desk.specs.declared.out.Out.{Out}
 use Rattle.iris_desk.specs.Outs.{touched_out, touched_where, out_in}
 use Rattle.iris_desk.specs.AtDesk.{DeskState, asked_desk, entered_desk, begun_desk, ended_desk, touched_desk}
 use Rattle.iris_desk.specs.AtDesks.{DesksState, desk_at, asked_by, keeps_for, out_for, out_of}
-use Rattle.iris_desk.specs.Laws.{AskLooksUp, BeginLooksUp, EndLooksUp, EnterLooksUp, OutIsAtItsDesk, TouchLooksUp}
-use Rattle.iris_desk.proofs.OutLists.{began_at_name, began_elsewhere, ended_at_name, ended_elsewhere, found_name}
+use Rattle.iris_desk.specs.Laws.{AskLooksUp, BeginLooksUp, EndLooksUp, EnterLooksUp, ListedIsOut, OutIsAtItsDesk, TouchLooksUp}
+use Rattle.iris_desk.proofs.OutLists.{began_at_name, began_elsewhere, ended_at_name, ended_elsewhere, found_name, found_listed, listed_found}
 use Rattle.iris_desk.proofs.OutOf.{found_for, for_found, for_none, none_for, same_of, mapped_of, at_desk}
-use Rattle.iris_desk.proofs.Keeping.{changed_look, unchanged_look, out_look, kept_look, asked_look, changed_apart, asked_was, entered_was, begun_was, ended_was, touched_for, touched_apart, desk_there}
+use Rattle.iris_desk.proofs.Keeping.{changed_look, unchanged_look, out_look, kept_look, asked_look, changed_apart, asked_was, entered_was, begun_was, ended_was, touched_for, touched_apart, desk_there, desk_sound}
 
 pub out_is_at : OutIsAtItsDesk
 out_is_at d n w o sound = (found_for d n w o, for_found d n w o sound.apart)
+
+pub listed_is : ListedIsOut
+listed_is d w desk o sound at = (
+  (λ c. for_found d o.name w o sound.apart (ap (out_look o.name) at ∙ listed_found o desk.out c.0 (desk_sound d w desk sound at).once c.1 c.2)),
+  (λ e. found_listed o.name o desk.out (sym (ap (out_look o.name) at) ∙ found_for d o.name w o e)),
+)
 
 -- ---- a request is kept, and handed out
 

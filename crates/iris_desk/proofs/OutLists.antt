@@ -1,6 +1,7 @@
 -- Look-ups in one desk's list of what is out, after each call, and what the list keeps.
 use Rattle.std.proofs.Common.{◌≡◌, ℕ, zero, suc, ◌<◌, List, [], ◌∷◌, ◌++◌, length, get_or, map, filter, Bool, true, false, cond, not, ◌||◌, Some, None, refl, sym, ◌∙◌, ap, subst, arith}
 use Rattle.std.specs.Prelude.{remove, All}
+use Rattle.std.specs.Prelude.{Contains}
 use Rattle.std.specs.List.{list_any, AllByRecursion, IsDistinct}
 use Rattle.std.specs.Option.{option_map}
 use Rattle.std.proofs.lemmas.List.{map-append}
@@ -130,3 +131,20 @@ removed_at n (x ∷ outs) (suc i) d once lt at =
     let here : same_name n x.name ≡ false = same_name-symm n x.name ∙ subst (λ m. same_name x.name m ≡ false) (sym (same_name-true n (get_or outs i d).name at)) apart in
     ap (λ l. x ∷ l) (removed_at n outs i d (IsDistinct-tail same_name x.name (map named outs) once) (omega (arith, lt)) at)
     ∙ sym (ap (λ b. cond (not b) (x ∷ filter (other n) outs) (filter (other n) outs)) here)
+
+-- ---- what stands in the list
+
+pub found_listed : (n : Name) (o : Out) (outs : List Out) → out_in outs n ≡ Some o → Contains outs o
+found_listed n o [] e = absurd (cc)
+found_listed n o (x ∷ outs) e = by (same_name n x.name) e (found_listed n o outs) where
+  by : (b : Bool) → cond b (Some x) (out_in outs n) ≡ Some o → (out_in outs n ≡ Some o → Contains outs o) → Contains (x ∷ outs) o
+  by true e f = (0, omega arith, (let z : x ≡ o = cc in z))
+  by false e f = let g = f e in (suc g.0, (let lt = g.1 in omega (arith, lt)), g.2)
+
+pub listed_found : (o : Out) (outs : List Out) (k : ℕ) → IsDistinct same_name (map named outs) → k < length outs → get_or outs k o ≡ o → out_in outs o.name ≡ Some o
+listed_found o [] k once lt at = absurd (omega (arith, lt))
+listed_found o (x ∷ outs) zero once lt at = ap (λ b. cond b (Some x) (out_in outs o.name)) (subst (λ y. same_name o.name (named y) ≡ true) (sym at) (same_name-refl o.name)) ∙ ap Some at
+listed_found o (x ∷ outs) (suc k) once lt at =
+    let apart = apart_at x.name outs k o (IsDistinct-head same_name x.name (map named outs) once) (omega (arith, lt)) in
+    let there : same_name o.name x.name ≡ false = same_name-symm o.name x.name ∙ subst (λ y. same_name x.name (named y) ≡ false) at apart in
+    ap (λ b. cond b (Some x) (out_in outs o.name)) there ∙ listed_found o outs k (IsDistinct-tail same_name x.name (map named outs) once) (omega (arith, lt)) at

@@ -1,12 +1,12 @@
 -- What each call does, by look-up of a name or a caller.
-use Rattle.std.specs.Prelude.{ℕ, ◌≡◌, ◌≤◌, ◌==◌, ◌&&◌, ◌↔◌, Bool, true, false, if◌then◌else◌, Some, None}
+use Rattle.std.specs.Prelude.{ℕ, ◌≡◌, ◌≤◌, ◌==◌, ◌&&◌, ◌↔◌, Bool, true, false, if◌then◌else◌, Some, None, Contains}
 use Rattle.std.specs.Option.{option_map}
 use Rattle.iris_name.specs.Names.{same_name}
 use Rattle.iris_name.specs.declared.name.Name.{Name}
 use Rattle.iris_name.specs.declared.request.Request.{Request}
 use Rattle.iris_desk.specs.declared.out.Out.{Out}
 use Rattle.iris_desk.specs.Outs.{touched_out}
-use Rattle.iris_desk.specs.AtDesk.{asked_desk, entered_desk, begun_desk, ended_desk, touched_desk}
+use Rattle.iris_desk.specs.AtDesk.{DeskState, asked_desk, entered_desk, begun_desk, ended_desk, touched_desk}
 use Rattle.iris_desk.specs.AtDesks.{DesksState, desk_at, asked_by, keeps_for, out_for, out_of, ChangesDesk, AreDesksSound}
 
 -- a request is asked by a caller
@@ -42,6 +42,10 @@ pub record TouchesOut (n : Name) (old new : DesksState) : Type 0 where
 -- Something is out for a name at a desk exactly where that desk has it.
 abbrev pub OutIsAtItsDesk : Type 0
 OutIsAtItsDesk = (d : DesksState) (n : Name) (w : ℕ) (o : Out) → AreDesksSound d → (out_of d n ≡ Some (w, o)) ↔ (out_for d w n ≡ Some o)
+
+-- What stands in a desk's list is what is out for its name, and the other way round.
+abbrev pub ListedIsOut : Type 0
+ListedIsOut = (d : DesksState) (w : ℕ) (desk : DeskState) (o : Out) → AreDesksSound d → desk_at d w ≡ Some desk → Contains desk.out o ↔ (out_of d o.name ≡ Some (w, o))
 
 abbrev pub AskLooksUp : Type 0
 AskLooksUp = (who : ℕ) (r : Request) (old new : DesksState) → AreDesksSound old → who ≤ 16 → ChangesDesk old new who (asked_desk r) → AsksBy who r old new

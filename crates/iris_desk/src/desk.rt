@@ -178,7 +178,7 @@ fn keep_if(kept: &mut IndexSet<Name>, name: &Name, keep: bool)
     requires { 0 < spare kept.old }
     ensures names { kept.new.keys ≡
         (if keep then insert_key same_name kept.old.keys name.now else kept.old.keys) }
-    ensures spare { spare kept.old ≤ spare kept.new + 1 }
+    ensures room { spare kept.old ≤ spare kept.new + 1 }
     ensures once { IsUnique same_name kept.old → IsUnique same_name kept.new }
 {
     if keep {

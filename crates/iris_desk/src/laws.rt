@@ -1,10 +1,15 @@
 //! What each call does, by look-up of a name or a caller.
 
-ghost use Rattle.iris_desk.specs.Laws.{AskLooksUp, BeginLooksUp, EndLooksUp, EnterLooksUp, OutIsAtItsDesk, TouchLooksUp};
+ghost use Rattle.iris_desk.specs.Laws.{AskLooksUp, BeginLooksUp, EndLooksUp, EnterLooksUp, ListedIsOut, OutIsAtItsDesk, TouchLooksUp};
 
 /// What is out for a name is out at the desk with that number, and at no other.
 pub fn out_is_at_its_desk()
     ensures { OutIsAtItsDesk }
+{}
+
+/// What stands in a desk's list is what is out for its name, and the other way round.
+pub fn listed_is_out()
+    ensures { ListedIsOut }
 {}
 
 /// Where a desk changes as `ask` has it, its caller asks this, and all else looks as before.

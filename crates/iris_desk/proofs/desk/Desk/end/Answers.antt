@@ -39,7 +39,7 @@ invariant_of-self c =
           let l = ap length c.remove-out.ensures.items in
           let r = length-remove c.self.inside.outs.items c.in_ok-place.place t in
           let k = c.self.invariant.room in
-          let s = c.keep_if.ensures.spare in
+          let s = c.keep_if.ensures.room in
           omega (arith, l, r, k, s);
     }
 
