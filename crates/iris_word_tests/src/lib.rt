@@ -10,6 +10,8 @@ mod copies;
 #[cfg(test)]
 mod deeds;
 #[cfg(test)]
+mod desks;
+#[cfg(test)]
 mod logs;
 #[cfg(test)]
 mod paths;

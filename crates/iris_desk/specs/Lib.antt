@@ -1,0 +1,4 @@
+pub mod Outs
+pub mod AtDesk
+pub mod AtDesks
+pub mod Laws
