@@ -12,7 +12,7 @@ use Rattle.iris_invariant.specs.Cells.{cell_of, redoomed, held_touched, touched_
 use Rattle.iris_invariant.specs.Events.{touched, Moved, Still, Changed}
 use Rattle.iris_history.proofs.Steady.{true_false}
 
-gone_some : {A : Type 0} (o : Option A) → IsSome o → IsNone o → ⊥
+pub gone_some : {A : Type 0} (o : Option A) → IsSome o → IsNone o → ⊥
 gone_some None s m = absurd (cc)
 gone_some (Some u) s m = absurd (cc)
 
@@ -42,7 +42,7 @@ moved_out g (Some o) t = by g.out refl where
   by None e = ap Some (sure g.touched (t.unknown g o refl refl e))
   by (Some w) e = refl
 
-came_out : (out : Option Out) → option_map (touched_if true) out ≡ option_map touched out
+pub came_out : (out : Option Out) → option_map (touched_if true) out ≡ option_map touched out
 came_out None = refl
 came_out (Some o) = refl
 

@@ -17,7 +17,7 @@ use Rattle.iris_history.specs.StatusLaws.{called, got, putted, dropped_note}
 use Rattle.iris_invariant.specs.Agrees as a
 use Rattle.iris_invariant.specs.Agrees.{marked, MarkListed, Doing, Getting, Putting, Dropping, Settling, Out, Cell, View, Mark, Touch, First, is_challenge, Gets, Now, Going, IsAsked, Settled, Pin, Agrees, Stands}
 use Rattle.iris_invariant.specs.Events as e
-use Rattle.iris_invariant.specs.Events.{IsDirtied, IsRequestGivenUp, touched, Elsewhere, SamePins, Began, RequestGivenUp, SettledNow, Brings, Pinned, Inserted, Passed, Brought, Moved, Still, Changed, Answered, Asked, Evicted, Mended}
+use Rattle.iris_invariant.specs.Events.{IsKeptDirty, IsKeptDoomed, touched, Elsewhere, SamePins, Began, Withdrawn, SettledNow, Brings, Pinned, Inserted, Passed, Brought, Moved, Still, Changed, Answered, Asked, Evicted, Mended}
 use Rattle.iris_history.proofs.Steady.{true_false, no_both}
 use Rattle.iris_history.proofs.NoteStatus.{passes_by, drop_live}
 use Rattle.iris_invariant.proofs.Names.{then_now, mark_stays, mark_changed, going_stays, going_changed, got_live}
@@ -25,7 +25,7 @@ use Rattle.iris_invariant.proofs.Begins.{resident_live}
 use Rattle.iris_invariant.proofs.Ends.{mark_got, mark_put, mark_drop, got_lawful, put_lawful, drop_lawful, left}
 
 -- what isn't taken away was there
-was_on : (u b : Bool) → cond u false b ≡ true → b ≡ true
+pub was_on : (u b : Bool) → cond u false b ≡ true → b ≡ true
 was_on true b e = absurd (cc)
 was_on false b e = e
 
@@ -151,7 +151,7 @@ module _ (k : Kept) (r : Rules) (opened : ℕ) (past : Past) (v v' : View) (h : 
       some_same o o' e = cc
 
   -- something is given up without a note
-  pub given_up_keeps : (n : Name) → RequestGivenUp n v v' → Agrees k r opened past v'
+  pub given_up_keeps : (n : Name) → Withdrawn n v v' → Agrees k r opened past v'
   given_up_keeps n b = quietly n b.rest
       (subst (λ z. Mark k n past (v'.cell n).resident z) (sym (same_marked (v.cell n) (v'.cell n) b.dirty b.doomed)) (subst (λ z. Mark k n past z (marked (v.cell n))) (sym b.resident) (h.marks n)))
       (λ o f. absurd (none_some (v'.cell n).out o b.out f))
@@ -247,7 +247,7 @@ module _ (k : Kept) (r : Rules) (opened : ℕ) (past : Past) (v v' : View) (h : 
       x = got opened o.who o.since n answer
 
       -- a get is noted, and given up
-      pub got_given_up : RequestGivenUp n v v' → IsLawful k r opened past (begun past x) x.note × Agrees k r opened (x ∷ past) v'
+      pub got_given_up : Withdrawn n v v' → IsLawful k r opened past (begun past x) x.note × Agrees k r opened (x ∷ past) v'
       got_given_up b = (
         got_lawful k r n opened past (v.cell n) o g expect d answer,
         noted n b.rest x (swap n) (λ q. refl)
@@ -385,7 +385,7 @@ module _ (k : Kept) (r : Rules) (opened : ℕ) (past : Past) (v v' : View) (h : 
     x : Stamped
     x = called opened who request reply
 
-    on : (n : Name) → shown_in k (x ∷ past) n ≢ shown_in k past n → (IsSome (shown_in k past n) → (v.cell n).resident ≡ true) → (IsSome (shown_in k (x ∷ past) n) → IsDirtied (v'.cell n)) → (IsNone (shown_in k (x ∷ past) n) → IsRequestGivenUp (v'.cell n)) → marked (v'.cell n) ≡ true
+    on : (n : Name) → shown_in k (x ∷ past) n ≢ shown_in k past n → (IsSome (shown_in k past n) → (v.cell n).resident ≡ true) → (IsSome (shown_in k (x ∷ past) n) → IsKeptDirty (v'.cell n)) → (IsNone (shown_in k (x ∷ past) n) → IsKeptDoomed (v'.cell n)) → marked (v'.cell n) ≡ true
     on n ne was is isn't = by (shown_in k (x ∷ past) n) refl where
       by : (o : Option k.Unfolded) → shown_in k (x ∷ past) n ≡ o → marked (v'.cell n) ≡ true
       by None e = or_right (v'.cell n).dirty _ (isn't (subst IsNone (sym e) refl)).doomed

@@ -2,14 +2,26 @@ pub mod Names
 pub mod Begins
 pub mod Ends
 pub mod Events
+pub mod EventLaws
 pub mod Readings
 pub mod Facts
+pub mod Knowledge
 pub mod Saves
 pub mod Cache
-pub mod Toy
 pub mod Supply
+pub mod Answering
 pub mod Desks
 pub mod Drafts
 pub mod Homes
 pub mod DeskLists
 pub mod Evidence
+pub mod Bounds
+pub mod Pins
+pub mod Pages
+pub mod CellLaws
+pub mod HomeLaws
+mod ExampleCounter
+mod ExamplesOfEvents
+mod ExamplesOfAgreeing
+mod ExamplesOfSaves
+mod ExamplesOfCells
