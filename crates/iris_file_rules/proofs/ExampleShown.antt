@@ -122,7 +122,7 @@ rows_of_trash key size = record { entry = (refl, sym (treap_of_none key)); risin
 pub thrown_file_there : (key : List ℕ) (size : ℕ) → HasRows (shows size (thrown_file ∷ [])) key (id_of 1) (thrown_file ∷ [])
 thrown_file_there key size = record { entry = (refl, sym (treap_of_one key thrown_file)); rising = (tt, tt); distinct = (tt, tt); named = (omega arith, tt); apart = ((λ e. absurd (let z = e in cc), tt), tt) }
 
-abbrev number_of : Name → ℕ
+abbrev pub number_of : Name → ℕ
 number_of (name.Entry i) = i.0
 number_of (name.Part f l i) = 0
 number_of (name.Block f p) = 0

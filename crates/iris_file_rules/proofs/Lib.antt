@@ -5,3 +5,5 @@ mod ExampleShown
 mod ExamplesOfTrails
 mod ExamplesOfRanges
 mod ExamplesOfUpkeep
+mod ExamplesOfNeighbours
+mod ExamplesOfReplies
