@@ -1,17 +1,16 @@
 -- How many names are marked at most, after each event.
-use Rattle.std.proofs.Common.{◌≡◌, ◌≢◌, ◌≤◌, ◌+◌, ◌||◌, ◌⊎◌, inl, inr, ℕ, List, [], ◌∷◌, length, Bool, true, false, cond, true≢false, refl, sym, ◌∙◌, ap, subst, arith}
+use Rattle.std.proofs.Common.{◌≡◌, ◌+◌, ◌||◌, ◌⊎◌, inl, inr, ℕ, List, [], ◌∷◌, length, Bool, true, false, true≢false, refl, sym, ◌∙◌, ap, subst, arith}
 use Rattle.std.proofs.lemmas.Map.Made.{length-le_from_is_member}
 use Rattle.std.specs.List.{AllByRecursion, IsDistinct, list_any}
 use Rattle.iris_name.specs.declared.name.Name.{Name}
-use Rattle.iris_name.specs.History.{Past, Stamped}
 use Rattle.iris_name.specs.Names.{same_name}
-use Rattle.iris_name.specs.NameLaws.{same_name-true, same_name-refl, same_name-symm, same_name_equiv}
+use Rattle.iris_name.specs.NameLaws.{same_name-true, same_name-refl, same_name_equiv}
 use Rattle.iris_history.specs.Crowding.{AreSeveral}
-use Rattle.iris_history.specs.Kept.{Kept, is_block, shown_in}
-use Rattle.iris_invariant.specs.Agrees.{marked, Cell, Out, View}
+use Rattle.iris_history.specs.Kept.{Kept, is_block}
+use Rattle.iris_invariant.specs.Agrees.{marked, Cell, View}
 use Rattle.iris_invariant.specs.Bounds as l
 use Rattle.iris_invariant.specs.Bounds.{AtMost, IsMarkedOf, IsChangedOf, MarksNoMore}
-use Rattle.iris_invariant.specs.Events.{Elsewhere, Moved, Still, Changed, Answered}
+use Rattle.iris_invariant.specs.Events.{Elsewhere, Moved, Still, Changed}
 use Rattle.iris_invariant.proofs.Events.{which, same_marked, neither, was_on}
 use Rattle.iris_history.proofs.Steady.{true_false}
 

@@ -1,16 +1,16 @@
 -- The laws of events, from the lemmas on each.
-use Rattle.std.proofs.Common.{◌≡◌, ◌⊎◌, inl, inr, ℕ, true, false, Some, refl, sym, ◌∙◌, subst}
+use Rattle.std.proofs.Common.{◌≡◌, inl, inr, ℕ, false, Some, sym, ◌∙◌, subst}
 use Rattle.iris_name.specs.declared.name.Name.{Name}
-use Rattle.iris_name.specs.History.{Past, Stamped}
+use Rattle.iris_name.specs.History.{Past}
 use Rattle.iris_history.specs.Kept.{Kept}
 use Rattle.iris_history.specs.Legal.{Rules}
-use Rattle.iris_history.specs.StatusLaws.{called}
 use Rattle.iris_invariant.specs.Agrees.{marked, Getting, Putting, Dropping, Settling, Out, View, Mark, IsAsked, Agrees}
 use Rattle.iris_invariant.specs.Beginnings.{begun_out}
 use Rattle.iris_invariant.specs.EventLaws as l
 use Rattle.iris_invariant.specs.Events.{Began}
 use Rattle.iris_invariant.proofs.Begins.{begins_get, begins_put, begins_drop, begins_settle}
-use Rattle.iris_invariant.proofs.Events.{same_marked, begin_keeps, given_up_keeps, settled_keeps, evict_keeps, mend_keeps, ask_keeps, got_given_up, got_kept, put_keeps, drop_keeps, call_keeps}
+use Rattle.iris_invariant.proofs.Calls.{call_keeps}
+use Rattle.iris_invariant.proofs.Events.{same_marked, begin_keeps, given_up_keeps, settled_keeps, evict_keeps, mend_keeps, ask_keeps, got_given_up, got_kept, put_keeps, drop_keeps}
 
 module _ (k : Kept) (r : Rules) where
   pub quiet_stands : l.GoingOnStands k r

@@ -1,5 +1,5 @@
 -- A table of one block that each write gives the next version, over which the examples of the core's events stand.
-use Rattle.std.proofs.Common.{◌≡◌, ℕ, suc, ◌==◌, [], ◌∷◌, Bool, true, false, cond, Option, Some, None, if◌then◌else◌, refl, sym, ◌∙◌, ap}
+use Rattle.std.proofs.Common.{◌≡◌, ℕ, suc, ◌==◌, [], ◌∷◌, Bool, true, false, Option, Some, None, if◌then◌else◌}
 use Rattle.iris_name.specs.declared.name.Name.{Name}
 use Rattle.iris_name.specs.declared.name.Name.TheVariants.{Block}
 use Rattle.iris_name.specs.declared.request.Request.{Request}

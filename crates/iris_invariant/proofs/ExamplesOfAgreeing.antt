@@ -1,9 +1,7 @@
 -- Beside the run of the counter: what is kept a little otherwise doesn't agree with the history.
-use Rattle.std.proofs.Common.{◌≡◌, inl, inr, ℕ, ◌==◌, List, [], ◌∷◌, Bool, true, false, cond, Option, Some, None, refl, sym, ◌∙◌, ap, get_or, subst, arith}
-use Rattle.iris_name.specs.declared.name.Name.{Name}
+use Rattle.std.proofs.Common.{◌≡◌, inl, inr, ℕ, [], ◌∷◌, true, false, Option, Some, None, refl, sym, ap, get_or, arith}
 use Rattle.iris_name.specs.declared.note.Answer.TheVariants.{Given}
 use Rattle.iris_name.specs.declared.request.Reply.TheVariants.{Done}
-use Rattle.iris_name.specs.declared.request.Request.TheVariants.{Write}
 use Rattle.iris_name.specs.History.{Past}
 use Rattle.iris_history.specs.StatusLaws.{called, got}
 use Rattle.iris_invariant.specs.Agrees as a

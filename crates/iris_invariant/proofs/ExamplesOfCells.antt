@@ -1,16 +1,15 @@
 -- Cells of pages, what a draft leaves of one, and how many names are marked, worked out by hand.
-use Rattle.std.proofs.Common.{◌≡◌, ◌⊎◌, inl, inr, ℕ, ◌≤◌, List, [], ◌∷◌, length, Bool, true, false, Option, Some, None, refl, sym, ap, arith}
+use Rattle.std.proofs.Common.{◌≡◌, inl, [], ◌∷◌, true, false, Some, None, refl, sym, ap, arith}
 use Rattle.iris_blocks.specs.declared.held.PageHeld.{PageHeld}
 use Rattle.iris_blocks.specs.Held.{arrived_page, renewed, begun_page, newcomer_page}
 use Rattle.iris_name.specs.declared.name.Name.{Name}
 use Rattle.iris_name.specs.declared.name.Name.TheVariants.{Block}
-use Rattle.iris_history.specs.Kept.{is_block}
-use Rattle.iris_invariant.specs.Agrees.{Putting, Out, Cell, Settled, View}
-use Rattle.iris_invariant.specs.Bounds.{AtMost, IsMarkedOf}
+use Rattle.iris_invariant.specs.Agrees.{Out}
+use Rattle.iris_invariant.specs.Bounds.{AtMost}
 use Rattle.iris_invariant.specs.CellLaws.{LeftPage}
 use Rattle.iris_invariant.specs.Cells.{cell_of_page, redoomed, page_touched, touched_if, TiedPage, has_pin}
 use Rattle.iris_invariant.proofs.ExampleCounter.{block, away, differ}
-use Rattle.iris_invariant.proofs.ExamplesOfEvents.{fresh, putting}
+use Rattle.iris_invariant.proofs.ExamplesOfEvents.{putting}
 
 abbrev page : PageHeld
 page = newcomer_page 1 [] 3

@@ -17,7 +17,8 @@ use Rattle.iris_invariant.specs.Saves as s
 use Rattle.iris_invariant.specs.Saves.{Started}
 use Rattle.iris_invariant.proofs.ExampleCounter.{block, counter, any_reply, away, view_of_block}
 use Rattle.iris_invariant.proofs.Begins.{begins_put, begins_get}
-use Rattle.iris_invariant.proofs.Events.{which, which_caller, begin_keeps, put_keeps, evict_keeps, ask_keeps, got_kept, call_keeps}
+use Rattle.iris_invariant.proofs.Calls.{call_keeps}
+use Rattle.iris_invariant.proofs.Events.{which, which_caller, begin_keeps, put_keeps, evict_keeps, ask_keeps, got_kept}
 use Rattle.iris_invariant.proofs.Saves.{start_agrees}
 use Rattle.iris_history.proofs.Steady.{unchosen, no_both, true_false}
 

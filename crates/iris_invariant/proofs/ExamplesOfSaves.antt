@@ -1,6 +1,5 @@
 -- What saves a history of the counter and what doesn't; what evidence is; and what passes a check.
-use Rattle.std.proofs.Common.{◌≡◌, inl, inr, ℕ, ◌<◌, List, [], ◌∷◌, Bool, true, false, Option, Some, None, refl, sym, get_or, ap, subst, arith}
-use Rattle.iris_name.specs.declared.name.FileId.{FileId}
+use Rattle.std.proofs.Common.{◌≡◌, inl, inr, ℕ, List, [], ◌∷◌, Bool, true, false, Some, refl, sym, arith}
 use Rattle.iris_name.specs.declared.name.Hash32.{Hash32}
 use Rattle.iris_name.specs.declared.name.Name.{Name}
 use Rattle.iris_name.specs.declared.name.Name.TheVariants.{Entry, Block}
@@ -16,7 +15,7 @@ use Rattle.iris_invariant.specs.Readings.{PassesCheck}
 use Rattle.iris_invariant.specs.Saves as s
 use Rattle.iris_invariant.specs.Saves.{Saved}
 use Rattle.iris_invariant.proofs.ExampleCounter.{block, counter, differ}
-use Rattle.iris_invariant.proofs.ExamplesOfEvents.{write, past1, past2, read, stored}
+use Rattle.iris_invariant.proofs.ExamplesOfEvents.{past1, past2, read, stored}
 use Rattle.iris_invariant.proofs.Begins.{unmarked_clean}
 
 -- a written block is held where no put was made, and where its put was answered ok it isn't

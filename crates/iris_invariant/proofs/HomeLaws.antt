@@ -1,5 +1,5 @@
 -- The laws of parents and of evidence, from the lemmas on each event.
-use Rattle.std.proofs.Common.{◌≡◌, ℕ, true, false}
+use Rattle.std.proofs.Common.{◌≡◌, ℕ, true}
 use Rattle.iris_name.specs.declared.name.Name.{Name}
 use Rattle.iris_name.specs.declared.note.Note.{Note}
 use Rattle.iris_name.specs.declared.note.Note.TheVariants.{Call, Got, Put, Dropped}

@@ -1,5 +1,5 @@
 -- The laws of what an agreeing core knows.
-use Rattle.std.proofs.Common.{◌≡◌, ◌⊎◌, inl, inr, ℕ}
+use Rattle.std.proofs.Common.{inl, inr}
 use Rattle.iris_history.specs.Kept.{Kept}
 use Rattle.iris_history.specs.Legal.{Rules}
 use Rattle.iris_invariant.specs.Knowledge as l

@@ -1,7 +1,12 @@
+-- Each event keeps that the core agrees: EventLaws, from Names, Begins, Ends, Events and Calls.
+-- What becomes of an answer: Answering, from Readings and Supply. What the core knows: Knowledge, from Facts.
+-- How many names are marked: Bounds. What is saved: Saves. Parents and evidence: HomeLaws, from Homes and Evidence.
+-- Cells: CellLaws, from Cache and Drafts for nodes, Pages for blocks, Pins.
 pub mod Names
 pub mod Begins
 pub mod Ends
 pub mod Events
+pub mod Calls
 pub mod EventLaws
 pub mod Readings
 pub mod Facts

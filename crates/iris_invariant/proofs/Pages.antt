@@ -1,24 +1,23 @@
 -- What a draft leaves of the pages, with what the core does to the desks after it, moves each block's cell as the marks ask.
-use Rattle.std.proofs.Common.{◌≡◌, ◌≢◌, ◌⊎◌, inl, inr, ℕ, ◌∷◌, List, Bool, true, false, cond, not, ◌&&◌, ◌||◌, Option, Some, None, refl, sym, ◌∙◌, ap, subst, IsSome, IsNone}
+use Rattle.std.proofs.Common.{◌≡◌, inl, inr, ℕ, List, Bool, true, false, cond, not, ◌&&◌, ◌||◌, Option, Some, None, refl, sym, ◌∙◌, ap, subst, IsSome, IsNone}
 use Rattle.std.specs.Prelude.{option_map, is_some}
 use Rattle.iris_blocks.specs.declared.draft.PageChange.{PageChange}
 use Rattle.iris_blocks.specs.declared.held.PageHeld.{PageHeld}
-use Rattle.iris_blocks.specs.Changes.{PageDrafted, change_of, landed_page, landed_page_by}
-use Rattle.iris_blocks.specs.Held.{begun_page, finished_page, arrived_page, renewed}
+use Rattle.iris_blocks.specs.Changes.{change_of, landed_page, landed_page_by}
+use Rattle.iris_blocks.specs.Held.{begun_page, finished_page}
 use Rattle.iris_blocks.specs.Laws.{stored_block}
-use Rattle.iris_blocks.specs.Paged.{Paged, held_page, IsBlock}
+use Rattle.iris_blocks.specs.Paged.{held_page}
 use Rattle.iris_cache.specs.Held.{touched_after}
 use Rattle.iris_name.specs.declared.name.Name.{Name}
-use Rattle.iris_name.specs.History.{Past, Stamped}
 use Rattle.iris_node.specs.Trees.{Shown}
 use Rattle.iris_node.specs.Unfolded.{Unfolded}
-use Rattle.iris_history.specs.Kept.{Kept, shown_in}
+use Rattle.iris_history.specs.Kept.{Kept}
 use Rattle.iris_history.proofs.Steady.{true_false}
 use Rattle.iris_invariant.specs.Agrees.{Out}
 use Rattle.iris_invariant.specs.CellLaws as l
 use Rattle.iris_invariant.specs.CellLaws.{IsHeldAsShown, LeftPage, ChangesEach}
-use Rattle.iris_invariant.specs.Cells.{cell_of_page, redoomed, page_touched, touched_if, TiedPage}
-use Rattle.iris_invariant.specs.Events.{touched, Moved, Still, Changed}
+use Rattle.iris_invariant.specs.Cells.{cell_of_page, page_touched, touched_if, TiedPage}
+use Rattle.iris_invariant.specs.Events.{touched, Still, Changed}
 use Rattle.iris_invariant.proofs.Cache.{gone_some, came_out}
 
 -- a draft of pages marks whatever stands for something else, and nothing more
@@ -41,6 +40,36 @@ pages_mark t u d b e ch is n block = subst (LeftPage (u n ≡ t n) (held_page b 
   landed : (c : Option PageChange) (g : Option PageHeld) → change_of d n ≡ c → held_page b n ≡ g → LeftPage (u n ≡ t n) g (landed_page c g)
   landed None g i j = stays g (ch.to.others n block i)
   landed (Some change) g i j = set change i change.new g refl j
+
+-- and each block is held as the tables show it
+pub pages_are_held : l.PagesAreHeld
+pages_are_held t u d b e n doomed shows ch is block listed = record {
+  before = λ ne live. before (change_of d n) refl ne live;
+  after = λ ne live. ap (λ z. is_some z) (is n) ∙ after (change_of d n) refl ne live;
+  gone = λ g. ap (λ z. is_some z) (is n) ∙ gone (change_of d n) (held_page b n) refl refl g;
+  listed = listed;
+} where
+  before : (c : Option PageChange) → change_of d n ≡ c → (u n ≡ t n → ⊥) → IsSome (t n) → IsSome (held_page b n)
+  before None i ne live = absurd (ne (ch.to.others n block i))
+  before (Some change) i ne live = ch.held n change i live
+
+  set : (new : Option (ℕ × List ℕ)) (g : Option PageHeld) → IsSome (stored_block new) → IsSome (landed_page_by new g)
+  set None g s = absurd (gone_some {A = Unfolded} None s refl)
+  set (Some new) None s = refl
+  set (Some new) (Some g) s = refl
+
+  unset : (new : Option (ℕ × List ℕ)) (g : Option PageHeld) → IsNone (stored_block new) → IsNone (landed_page_by new g)
+  unset None g s = refl
+  unset (Some new) g s = absurd (gone_some (stored_block (Some new)) refl s)
+
+  after : (c : Option PageChange) → change_of d n ≡ c → (u n ≡ t n → ⊥) → IsSome (u n) → IsSome (landed_page c (held_page b n))
+  after None i ne live = absurd (ne (ch.to.others n block i))
+  after (Some change) i ne live = set change.new (held_page b n) (subst IsSome (ch.to.changed n change i) live)
+
+  gone : (c : Option PageChange) (g : Option PageHeld) → change_of d n ≡ c → held_page b n ≡ g → IsNone (u n) → IsNone (landed_page c g)
+  gone None None i j s = refl
+  gone None (Some g) i j s = absurd (gone_some (u n) (ap (λ z. is_some z) (ch.to.others n block i ∙ shows n g j)) s)
+  gone (Some change) g i j s = unset change.new g (subst IsNone (ch.to.changed n change i) s)
 
 -- touching where nothing changed leaves what is out
 left_page_out : (g : PageHeld) (out : Option Out) → TiedPage (Some g) out → option_map (touched_if g.touched) out ≡ out

@@ -11,7 +11,7 @@ use Rattle.iris_name.specs.declared.request.Reply.TheVariants.{Refused}
 use Rattle.iris_name.specs.declared.request.Request.{Request}
 use Rattle.iris_name.specs.History.{Past, Stamped, begun, oldest}
 use Rattle.iris_history.specs.Answers.{IsFailure}
-use Rattle.iris_history.specs.Kept.{Kept, shown_in}
+use Rattle.iris_history.specs.Kept.{Kept}
 use Rattle.iris_history.specs.Legal.{Rules, IsLawful, IsLegal, IsBad, IsLicensed}
 use Rattle.iris_history.specs.Values.{IsRequest}
 use Rattle.iris_history.specs.StatusLaws.{called, got, putted, dropped_note}
@@ -21,7 +21,8 @@ use Rattle.iris_invariant.specs.Events as e
 use Rattle.iris_invariant.specs.Events.{Withdrawn, Brought, Answered}
 use Rattle.iris_invariant.specs.Readings.{PassesCheck, Spells, OneBlock}
 use Rattle.iris_invariant.proofs.Ends.{failed_licenses, other_licenses, put_licenses, drop_licenses}
-use Rattle.iris_invariant.proofs.Events.{got_given_up, got_kept, put_keeps, drop_keeps, call_keeps}
+use Rattle.iris_invariant.proofs.Calls.{call_keeps}
+use Rattle.iris_invariant.proofs.Events.{got_given_up, got_kept, put_keeps, drop_keeps}
 use Rattle.iris_invariant.proofs.Facts.{refusal_lawful}
 use Rattle.iris_invariant.proofs.Readings.{refused_other, passed_right, stood, stands}
 

@@ -1,5 +1,5 @@
 -- What becomes of an answer of the store: it is kept, or the call for which it came is refused.
-use Rattle.std.specs.Prelude.{ℕ, ◌≡◌, ◌⊎◌, ◌∷◌, List, Bool, true, false, Some}
+use Rattle.std.specs.Prelude.{ℕ, ◌≡◌, ◌⊎◌, ◌+◌, ◌∷◌, List, true, false, Some}
 use Rattle.iris_name.specs.declared.name.Name.{Name}
 use Rattle.iris_name.specs.declared.note.Answer.{Answer}
 use Rattle.iris_name.specs.declared.note.Answer.TheVariants.{Given}
@@ -8,8 +8,8 @@ use Rattle.iris_name.specs.declared.request.Cause.{Cause}
 use Rattle.iris_name.specs.declared.request.Cause.TheVariants.{StoreFailed, BadAnswer}
 use Rattle.iris_name.specs.declared.request.Reply.TheVariants.{Refused}
 use Rattle.iris_name.specs.declared.request.Request.{Request}
-use Rattle.iris_name.specs.History.{Past, Stamped}
-use Rattle.iris_history.specs.Answers.{IsFailure}
+use Rattle.iris_name.specs.History.{Past, Stamped, oldest}
+use Rattle.iris_history.specs.Answers.{IsFailure, IsOther, last_of}
 use Rattle.iris_history.specs.Kept.{Kept, shown_in}
 use Rattle.iris_history.specs.Legal.{Rules, IsLegal, IsBad}
 use Rattle.iris_history.specs.StatusLaws.{called, got, putted, dropped_note}
@@ -39,6 +39,20 @@ RefusesAfter k r past x who request cause v v1 v2 = let c = called x.opened who 
 pub record FailsCheck (k : Kept) (Fits : Name → List ℕ → Type 0) (n : Name) (expect : Expect) (answer : Answer) : Type 0 where
   pub came : IsFailure answer → ⊥
   pub wrong : (bytes : List ℕ) → answer ≡ Given bytes → PassesCheck k Fits n expect bytes → ⊥
+
+-- What an answer to a get shows, by what its name stood for when the get began. That record passes, and is no other answer; one
+-- that fails its check is other; and one that passes is the record, or makes the history bad.
+pub record AnswerShows (k : Kept) (r : Rules) (Fits : Name → List ℕ → Type 0) (opened : ℕ) (past : Past) (n : Name) (o : Out) (expect : Expect) (answer : Answer) : Type 0 where
+  pub u : k.Unfolded
+  pub stood : shown_in k (oldest (opened + o.since) past) n ≡ Some u
+  pub passes : PassesCheck k Fits n expect (k.spelled n u)
+  pub right : answer ≡ Given (k.spelled n u) → IsOther (last_of n past) answer → ⊥
+  pub refused : FailsCheck k Fits n expect answer → IsOther (last_of n past) answer
+  pub passed : (bytes : List ℕ) → answer ≡ Given bytes → PassesCheck k Fits n expect bytes → IsBad k r (got opened o.who o.since n answer ∷ past) ⊎ (bytes ≡ k.spelled n u)
+
+abbrev pub AnswersShow : Kept → Rules → (Name → List ℕ → Type 0) → Type 0
+AnswersShow k r Fits = Spells k r Fits → OneBlock k → (opened : ℕ) (past : Past) (v : View) (n : Name) (o : Out) (expect : Expect) (answer : Answer) → IsLegal k r past → Agrees k r opened past v
+    → (v.cell n).out ≡ Some o → o.doing ≡ Getting expect → AnswerShows k r Fits opened past n o expect answer
 
 -- the call of a get that failed, or whose answer fails its check, is refused
 abbrev pub FailedGetsRefuse : Kept → Rules → Type 0

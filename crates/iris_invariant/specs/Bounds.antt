@@ -1,5 +1,5 @@
 -- How many names are marked at most.
-use Rattle.std.specs.Prelude.{ℕ, ◌≡◌, ◌≢◌, ◌+◌, ◌≤◌, ◌∷◌, List, length, Bool, true, false}
+use Rattle.std.specs.Prelude.{ℕ, ◌≡◌, ◌≢◌, ◌+◌, ◌≤◌, ◌∷◌, List, length, Bool, true}
 use Rattle.std.specs.List.{list_any}
 use Rattle.iris_name.specs.declared.name.Name.{Name}
 use Rattle.iris_name.specs.History.{Past, Stamped}

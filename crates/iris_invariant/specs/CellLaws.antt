@@ -5,31 +5,40 @@ use Rattle.iris_blocks.specs.declared.held.PageHeld.{PageHeld}
 use Rattle.iris_blocks.specs.Changes.{PageDrafted, change_of, landed_page}
 use Rattle.iris_blocks.specs.Held.{arrived_page, renewed, begun_page, finished_page, newcomer_page, pinned_page, unpinned_page}
 use Rattle.iris_blocks.specs.Laws.{ChangesTo}
-use Rattle.iris_blocks.specs.Paged.{Paged, held_page, IsBlock}
+use Rattle.iris_blocks.specs.Paged.{Paged, held_page, IsBlock, Shows}
+use Rattle.iris_cache.specs.Applied.{Lands}
 use Rattle.iris_cache.specs.declared.held.Held.{Held}
+use Rattle.iris_cache.specs.Drafted.{Drafted}
 use Rattle.iris_cache.specs.Held.{begun_node, finished_node, newcomer_node, pinned_node, unpinned_node}
 use Rattle.iris_cache.specs.Laws.{Left}
+use Rattle.iris_cache.specs.Pictures.{Pictures, Drafts}
+use Rattle.iris_cache.specs.Resident.{Resident, held_node}
 use Rattle.iris_name.specs.declared.name.Name.{Name}
 use Rattle.iris_name.specs.History.{Past, Stamped}
 use Rattle.iris_node.specs.declared.node.Node.{Node}
-use Rattle.iris_node.specs.Trees.{Shown}
+use Rattle.iris_node.specs.Trees.{Shown, IsNodeName}
 use Rattle.iris_history.specs.Kept.{Kept, shown_in}
 use Rattle.iris_invariant.specs.Agrees.{Out}
 use Rattle.iris_invariant.specs.Cells.{cell_of, cell_of_page, redoomed, held_touched, page_touched, touched_if, Tied, TiedPage, has_pin}
 use Rattle.iris_invariant.specs.Events.{Moved, Brings}
 
--- A name before and after a note, as a draft and what is held show it: what changed was resident if it lived, and is resident
--- if it lives; what is gone is absent; and what is resident isn't listed as doomed.
-pub record IsHeldAsShown (k : Kept) (past : Past) (x : Stamped) (n : Name) (was is : Bool) (doomed : Bool) : Type 0 where
-  pub before : shown_in k (x ∷ past) n ≢ shown_in k past n → IsSome (shown_in k past n) → was ≡ true
-  pub after : shown_in k (x ∷ past) n ≢ shown_in k past n → IsSome (shown_in k (x ∷ past) n) → is ≡ true
-  pub gone : IsNone (shown_in k (x ∷ past) n) → is ≡ false
+-- What a name stands for before and after, and whether it is held: what changed was resident if it lived, and is resident if it
+-- lives; what is gone is absent; and what was resident isn't listed as doomed.
+pub record IsHeldAsShown {U : Type 0} (old new : Option U) (was is doomed : Bool) : Type 0 where
+  pub before : new ≢ old → IsSome old → was ≡ true
+  pub after : new ≢ old → IsSome new → is ≡ true
+  pub gone : IsNone new → is ≡ false
   pub listed : was ≡ true → doomed ≡ false
+
+-- so it is with a node where a draft is made over a cache that pictures the table
+abbrev pub NodesAreHeld : Type 0
+NodesAreHeld = (old new : Shown) (d : Drafted) (c e : Resident) (n : Name) (doomed : Bool) → Drafts old new d c → Lands d c e n → Pictures new e → IsNodeName n → (IsSome (held_node c n) → doomed ≡ false)
+    → IsHeldAsShown (old n) (new n) (is_some (held_node c n)) (is_some (held_node e n)) doomed
 
 -- what a draft leaves of a node, with what the core does to the desks after it, moves the node's cell
 abbrev pub NodesMove : Kept → Type 0
 NodesMove k = (past : Past) (x : Stamped) (n : Name) (g h : Option Held) (doomed : Bool) (out : Option Out)
-    → IsHeldAsShown k past x n (is_some g) (is_some h) doomed → Tied g out → Left (shown_in k (x ∷ past) n ≡ shown_in k past n) g h
+    → IsHeldAsShown (shown_in k past n) (shown_in k (x ∷ past) n) (is_some g) (is_some h) doomed → Tied g out → Left (shown_in k (x ∷ past) n ≡ shown_in k past n) g h
     → Moved k past x n (cell_of g doomed out) (cell_of h (redoomed g h doomed) (option_map (touched_if (held_touched g h)) out))
 
 -- What a draft leaves of what was held of a block; `same` says that it stands for the same. It is as it was; or it came, went
@@ -51,10 +60,15 @@ abbrev pub PagesMark : Type 0
 PagesMark = (t u : Shown) (d : PageDrafted) (b e : Paged) → ChangesEach t u d b → ((q : Name) → held_page e q ≡ landed_page (change_of d q) (held_page b q))
     → (n : Name) → IsBlock n → LeftPage (u n ≡ t n) (held_page b n) (held_page e n)
 
+-- and a block is held as the tables show it where a draft is made over pages that show the table
+abbrev pub PagesAreHeld : Type 0
+PagesAreHeld = (t u : Shown) (d : PageDrafted) (b e : Paged) (n : Name) (doomed : Bool) → Shows t b → ChangesEach t u d b → ((q : Name) → held_page e q ≡ landed_page (change_of d q) (held_page b q))
+    → IsBlock n → (IsSome (held_page b n) → doomed ≡ false) → IsHeldAsShown (t n) (u n) (is_some (held_page b n)) (is_some (held_page e n)) doomed
+
 -- what a draft leaves of a page, with what the core does to the desks after it, moves the block's cell
 abbrev pub PagesMove : Kept → Type 0
 PagesMove k = (past : Past) (x : Stamped) (n : Name) (g h : Option PageHeld) (doomed : Bool) (out : Option Out)
-    → IsHeldAsShown k past x n (is_some g) (is_some h) doomed → TiedPage g out → LeftPage (shown_in k (x ∷ past) n ≡ shown_in k past n) g h
+    → IsHeldAsShown (shown_in k past n) (shown_in k (x ∷ past) n) (is_some g) (is_some h) doomed → TiedPage g out → LeftPage (shown_in k (x ∷ past) n ≡ shown_in k past n) g h
     → Moved k past x n (cell_of_page g doomed out) (cell_of_page h (redoomed g h doomed) (option_map (touched_if (page_touched g h)) out))
 
 -- An end that is told `ok`, and untouched at the desk, unmarks exactly so, where the cache knows of what is out; where it

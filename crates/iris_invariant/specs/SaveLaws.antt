@@ -1,5 +1,5 @@
 -- What is started from and what is saved, as statements.
-use Rattle.std.specs.Prelude.{ℕ, ◌∷◌, length, Bool}
+use Rattle.std.specs.Prelude.{ℕ, length, Bool}
 use Rattle.iris_name.specs.declared.name.Name.{Name}
 use Rattle.iris_name.specs.History.{Past}
 use Rattle.iris_history.specs.Kept.{Kept}

@@ -1,9 +1,14 @@
 //! Laws of answers of the store: they are kept, or the call for which they came is refused.
 
-ghost use Rattle.iris_invariant.specs.Answering.{BadAnswersRefuse, FailedDiscardsRefuse, FailedGetsRefuse, FailedPutsRefuse, PassingAnswersStay};
+ghost use Rattle.iris_invariant.specs.Answering.{AnswersShow, BadAnswersRefuse, FailedDiscardsRefuse, FailedGetsRefuse, FailedPutsRefuse, PassingAnswersStay};
 
 use crate::Spelled;
 use iris_history::Portal;
+
+/// What an answer to a get shows.
+pub fn answers_show<P: Spelled>()
+    ensures { AnswersShow P.kept P.rules P.fits }
+{}
 
 /// The call of a get that failed is refused.
 pub fn failed_gets_refuse<P: Portal>()

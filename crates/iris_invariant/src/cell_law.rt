@@ -1,8 +1,18 @@
 //! Laws of the cells that cache, resident blocks and desks make together.
 
-ghost use Rattle.iris_invariant.specs.CellLaws.{NodesBring, NodesEnd, NodesMove, NodesStayTied, PagesBring, PagesEnd, PagesMark, PagesMove, PagesStayTied, UnpinsTakeOne};
+ghost use Rattle.iris_invariant.specs.CellLaws.{NodesAreHeld, NodesBring, NodesEnd, NodesMove, NodesStayTied, PagesAreHeld, PagesBring, PagesEnd, PagesMark, PagesMove, PagesStayTied, UnpinsTakeOne};
 
 use iris_history::Portal;
+
+/// A node is held as the tables show it, before and after a draft is made.
+pub fn nodes_are_held()
+    ensures { NodesAreHeld }
+{}
+
+/// And a block.
+pub fn pages_are_held()
+    ensures { PagesAreHeld }
+{}
 
 /// A draft moves the cell of each node as an entered call does.
 pub fn nodes_move<P: Portal>()
