@@ -2,7 +2,7 @@
 -- and 2 are written and place 1 is a hole, and the file `b` with id 6 where the test says so; in the trash one row, or none: the
 -- file with id 3, of which places 0 and 1 are written, or the directory with id 4, in which the file `c` with id 5 stands.
 -- Of parts those alone are there that the examples speak of.
-use Rattle.std.proofs.Common.{◌≡◌, ◌≢◌, ◌⊎◌, inl, inr, ◌==◌, ◌&&◌, ◌||◌, ◌+◌, ◌/◌, ◌≤◌, ◌<◌, ℕ, nat_lt, List, [], ◌∷◌, Bool, true, false, cond, Option, Some, None, IsSome, refl, sym, ◌∙◌, ap, subst, arith}
+use Rattle.std.proofs.Common.{◌≡◌, inl, inr, ◌==◌, ◌&&◌, ◌||◌, ◌+◌, ◌/◌, ◌≤◌, ◌<◌, ℕ, nat_lt, List, [], ◌∷◌, Bool, true, false, cond, Option, Some, None, refl, sym, ◌∙◌, ap, subst, arith}
 use Rattle.std.specs.Prelude.{codes}
 use Rattle.iris_name.specs.Paths.{names_of}
 use Rattle.iris_name.specs.declared.name.FileId.{FileId}
@@ -23,7 +23,7 @@ use Rattle.iris_treepaths.specs.Ways.{Any, IsNamed, along, along_name, is_row_be
 use Rattle.iris_version_tree.specs.Needs.{Covers}
 use Rattle.iris_file_rules.specs.Reach.{IsFileAt, InFile, Reaches}
 use Rattle.iris_rows.specs.Changes.{trash_name}
-use Rattle.iris_treepaths.specs.Rows.{Row, Content, Directory, File, row_entry, treap_of_rows, HasRows, up}
+use Rattle.iris_treepaths.specs.Rows.{Row, Directory, File, row_entry, treap_of_rows, HasRows, up}
 
 -- the rows
 abbrev pub label : ℕ → List ℕ

@@ -1,21 +1,21 @@
 -- Two files `a` and `b` in `/`, with ids 2 and 6, under a key by which the row of `a` stands above that of `b`: a row that isn't
 -- met on the way to another's, and is met where that one goes.
-use Rattle.std.proofs.Common.{◌≡◌, ◌≢◌, ◌⊎◌, inl, inr, ◌==◌, ◌≤◌, ℕ, List, [], ◌∷◌, Bool, true, false, cond, Option, Some, None, refl, sym, ◌∙◌, ap, subst, arith}
+use Rattle.std.proofs.Common.{◌≡◌, inl, inr, ◌==◌, ℕ, List, [], ◌∷◌, true, cond, Some, None, refl, sym, ◌∙◌, ap, subst, arith}
 use Rattle.std.specs.Prelude.{codes}
 use Rattle.iris_name.specs.declared.name.FileId.{FileId}
 use Rattle.iris_name.specs.declared.name.Name.{Name}
 use Rattle.iris_name.specs.declared.name.Name.TheVariants as name
-use Rattle.iris_name.specs.declared.request.Request.TheVariants.{Mkdir, Stat, Remove, Rename}
+use Rattle.iris_name.specs.declared.request.Request.TheVariants.{Stat, Remove, Rename}
 use Rattle.iris_node.specs.Trees.{Shown}
-use Rattle.iris_node.specs.Unfolded.{Unfolded, Absent, Folder, id_of}
+use Rattle.iris_node.specs.Unfolded.{Absent, Folder, id_of}
 use Rattle.iris_paths.specs.declared.resolving.Found.TheVariants.{At}
-use Rattle.iris_paths.specs.Pictured.{IsAlong, nearby, further, IsOnTrail}
+use Rattle.iris_paths.specs.Pictured.{IsAlong, nearby, further}
 use Rattle.iris_paths.specs.Resolving.{here, onward, root_id, Resolves}
-use Rattle.iris_paths.proofs.Alike.{Alike, alike_same, any_alike, AnyNamed}
+use Rattle.iris_paths.proofs.Alike.{alike_same, any_alike, AnyNamed}
 use Rattle.iris_shape.specs.Treap.{Treap, Empty, Over, treap, with_first, near}
 use Rattle.iris_treepaths.specs.Needs.{IsMet}
 use Rattle.iris_treepaths.specs.Rows.{Row, treap_of_rows, HasRows, up}
-use Rattle.iris_treepaths.specs.Ways.{Any, IsNamed, along, along_name, near_name, is_row_before, has_name}
+use Rattle.iris_treepaths.specs.Ways.{along, along_name, near_name, is_row_before, has_name}
 use Rattle.iris_file_rules.proofs.ExampleShown.{label, file_row, row_a, entry, at_a, at_b, by_names, of_names, number_of, some_names, reaches}
 
 abbrev row_b : Row

@@ -1,7 +1,6 @@
 -- What requests on the bytes of a file reach, and what near by they don't.
-use Rattle.std.proofs.Common.{◌≡◌, ◌⊎◌, inl, inr, ◌+◌, ◌/◌, ◌-◌, ◌≤◌, ◌<◌, ℕ, List, [], ◌∷◌, length, min, Bool, true, false, Option, Some, None, is_some, IsSome, refl, sym, ◌∙◌, ap, subst, arith}
+use Rattle.std.proofs.Common.{◌≡◌, ◌⊎◌, inl, inr, ◌+◌, ◌/◌, ◌-◌, ◌<◌, ℕ, List, [], ◌∷◌, length, min, Bool, true, false, None, is_some, IsSome, refl, sym, ap, subst, arith}
 use Rattle.std.specs.Prelude.{codes}
-use Rattle.iris_name.specs.declared.name.FileId.{FileId}
 use Rattle.iris_name.specs.declared.name.Name.{Name}
 use Rattle.iris_name.specs.declared.request.Request.TheVariants.{Write, Read, Resize}
 use Rattle.iris_node.specs.Trees.{Shown}
@@ -63,8 +62,11 @@ module _ (key : List ℕ) where
 
   -- a part that covers a place of the range, and no other
   read_part : reaches key t (Read a 0 1) (part 2 0)
-  read_part = by_names _ _ _ at_a (omega arith, inr (in_file (λ size. 0) (λ size. min (0 + 1) size) (omega arith) (part 2 0) refl
-      (inl (refl, record { place = 0; from = omega arith; to = omega arith; under = record { from = omega arith; to = omega arith } }))))
+  read_part = by_names _ _ _ at_a (
+    omega arith,
+    inr (in_file (λ size. 0) (λ size. min (0 + 1) size) (omega arith) (part 2 0) refl
+        (inl (refl, record { place = 0; from = omega arith; to = omega arith; under = record { from = omega arith; to = omega arith } }))),
+  )
 
   read_another_part : reaches key t (Read a 0 1) (part 1 1) → ⊥
   read_another_part h = elim (of_names _ _ _ at_a h).1 [
@@ -73,8 +75,11 @@ module _ (key : List ℕ) where
   ]
 
   read_both_parts : reaches key t (Read a 8192 1) (part 1 1)
-  read_both_parts = by_names _ _ _ at_a (omega arith, inr (in_file (λ size. 8192) (λ size. min (8192 + 1) size) (omega arith) (part 1 1) refl
-      (inl (refl, record { place = 2; from = omega arith; to = omega arith; under = record { from = omega arith; to = omega arith } }))))
+  read_both_parts = by_names _ _ _ at_a (
+    omega arith,
+    inr (in_file (λ size. 8192) (λ size. min (8192 + 1) size) (omega arith) (part 1 1) refl
+        (inl (refl, record { place = 2; from = omega arith; to = omega arith; under = record { from = omega arith; to = omega arith } }))),
+  )
 
   -- of a write the block of a place that it touches, also where it writes the whole block; none of a write past it, or of no
   -- bytes; and nothing at all of too many

@@ -1,5 +1,5 @@
 -- When a sync may be answered: where both roots were put, and nothing else ever lived; and not before.
-use Rattle.std.proofs.Common.{◌≡◌, ◌==◌, ◌||◌, ◌⊎◌, inl, inr, ◌≤◌, ℕ, List, [], ◌∷◌, Bool, true, false, Option, None, refl, sym, ◌∙◌, ap, subst, IsSome, IsNone}
+use Rattle.std.proofs.Common.{◌≡◌, ◌==◌, ◌||◌, ◌⊎◌, inl, inr, ℕ, List, [], ◌∷◌, Bool, true, false, refl, sym, ap, subst, IsSome, IsNone}
 use Rattle.std.proofs.lemmas.Bool.{eqb-true}
 use Rattle.iris_mac.specs.declared.keys.Keys.{Keys}
 use Rattle.iris_name.specs.declared.name.FileId.{FileId}
@@ -14,7 +14,6 @@ use Rattle.iris_history.specs.Kept.{shown_in}
 use Rattle.iris_history.specs.Status.{IsClean, IsDirty}
 use Rattle.iris_history.specs.StatusLaws.{putted}
 use Rattle.iris_node.specs.Unfolded.{id_of}
-use Rattle.iris_rows.specs.Rows.{empty_table}
 use Rattle.iris_file_rules.specs.FileTable.{files, is_root_name}
 use Rattle.iris_file_rules.specs.Rules.{FileReplies}
 use Rattle.iris_file_rules.proofs.Fresh.{root_shown, other_shown}

@@ -1,14 +1,12 @@
 -- What requests on paths reach, and what near by they don't.
-use Rattle.std.proofs.Common.{◌≡◌, ◌≢◌, ◌⊎◌, inl, inr, ℕ, List, [], ◌∷◌, Bool, true, false, Option, Some, None, refl, sym, ◌∙◌, ap, arith}
+use Rattle.std.proofs.Common.{inl, inr, ℕ, List, [], ◌∷◌, refl, sym}
 use Rattle.std.specs.Prelude.{codes}
 use Rattle.iris_name.specs.declared.name.Name.{Name}
-use Rattle.iris_name.specs.declared.request.Request.TheVariants.{Mkdir, Create, Write, Read, Stat, List as ListNames, Rename, Remove, Sync, Root}
+use Rattle.iris_name.specs.declared.request.Request.TheVariants.{Mkdir, Create, Stat, List as ListNames, Rename, Remove, Sync, Root}
 use Rattle.iris_node.specs.Trees.{Shown}
 use Rattle.iris_node.specs.Unfolded.{id_of}
 use Rattle.iris_paths.specs.Pictured.{nearby}
 use Rattle.iris_paths.specs.Resolving.{root_id}
-use Rattle.iris_rows.specs.Changes.{trash_name}
-use Rattle.iris_file_rules.specs.Reach.{Reaches}
 use Rattle.iris_file_rules.proofs.ExampleShown.{label, row_a, shows, entry, part, block, top, at_a, at_b, no_path, by_names, of_names, off_names, rows_of_root, leads_to_a, rows_of_trash, no_file_on_trail, no_trash_on_trail, met_entry, some_names, differ, reaches}
 
 module _ (key : List ℕ) where
@@ -75,9 +73,15 @@ module _ (key : List ℕ) where
     | inr a ↦ differ (sym (met_entry a.dir _ (block 2 0) a.met))
   ]
 
-  -- a move reaches the row that goes, and not the trash; a removal reaches the trash too, and no block
+  -- a move reaches the row that goes, and no block of it; a removal reaches the trash too, and no block either
   rename_row : reaches key t (Rename (codes "/a") (codes "/b")) (entry 2)
   rename_row = by_names _ _ _ at_a (by_names _ _ _ at_b (some_names _ _, inr (inr (record { id = id_of 2; dir = id_of 0; rows = row_a 9000 ∷ []; leads = leads_to_a key 9000 []; has = rows_of_root key 9000 []; met = inr (inl refl) }))))
+
+  rename_no_block : reaches key t (Rename (codes "/a") (codes "/b")) (block 2 0) → ⊥
+  rename_no_block h = elim (of_names _ _ _ at_b (of_names _ _ _ at_a h)).1 [
+    | inl a ↦ no_file_on_trail t key _ (block 2 0) refl a
+    | inr a ↦ elim a [ inl b ↦ no_file_on_trail t key _ (block 2 0) refl b | inr b ↦ differ (sym (met_entry b.dir _ (block 2 0) b.met)) ]
+  ]
 
   remove_trash : reaches key t (Remove (codes "/a")) (entry 1)
   remove_trash = by_names _ _ _ at_a (some_names _ _, inr (record { id = id_of 2; dir = id_of 0; leads = leads_to_a key 9000 []; met = inr (record { rows = []; has = rows_of_trash key 9000; met = inl refl }) }))

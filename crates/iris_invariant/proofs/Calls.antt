@@ -1,5 +1,5 @@
 -- An entered call keeps that the core agrees with the history.
-use Rattle.std.proofs.Common.{◌≡◌, ◌≢◌, ◌⊎◌, inl, inr, ℕ, ◌∷◌, Bool, true, false, ◌||◌, Option, Some, None, refl, sym, ◌∙◌, ap, subst, IsSome, IsNone}
+use Rattle.std.proofs.Common.{◌≡◌, ◌≢◌, ◌⊎◌, inl, inr, ℕ, ◌∷◌, Bool, true, false, Option, Some, None, refl, sym, ◌∙◌, ap, subst, IsSome, IsNone}
 use Rattle.std.specs.Prelude.{option_map}
 use Rattle.iris_name.specs.declared.name.Name.{Name}
 use Rattle.iris_name.specs.declared.request.Reply.{Reply}
@@ -10,7 +10,7 @@ use Rattle.iris_history.specs.Legal.{Rules}
 use Rattle.iris_history.specs.StatusLaws.{called}
 use Rattle.iris_history.proofs.Steady.{true_false}
 use Rattle.iris_history.proofs.NoteStatus.{passes_by}
-use Rattle.iris_invariant.specs.Agrees.{marked, MarkListed, Out, View, Mark, Going, IsAsked, Settled, Pin, Agrees}
+use Rattle.iris_invariant.specs.Agrees.{marked, MarkListed, Out, View, Mark, Going, IsAsked, SettledUnlessMarked, PinnedIfKept, Agrees}
 use Rattle.iris_invariant.specs.Events.{IsKeptDirty, IsKeptDoomed, touched, Moved, Still, Changed, Answered}
 use Rattle.iris_invariant.proofs.Names.{mark_stays, mark_changed, going_stays, going_changed}
 use Rattle.iris_invariant.proofs.Begins.{resident_live}
@@ -59,11 +59,11 @@ module _ (k : Kept) (r : Rules) (opened : ℕ) (past : Past) (v v' : View) (h : 
     asks n (Changed ne was is isn't out) = λ o f. let p = come n (v.cell n).out o (sym out ∙ f) in
         subst (λ z. IsAsked z (v'.asked z.who)) p.2 (subst (λ q. IsAsked (touched p.0) q) (sym (b.asked p.0.who (b.idle n p.0 p.1))) (h.asks n p.0 p.1))
 
-    set : (n : Name) → Moved k past x n (v.cell n) (v'.cell n) → Settled (v'.cell n)
-    set n (Still s c) = subst Settled (sym c) (h.settled n)
+    set : (n : Name) → Moved k past x n (v.cell n) (v'.cell n) → SettledUnlessMarked (v'.cell n)
+    set n (Still s c) = subst SettledUnlessMarked (sym c) (h.settled n)
     set n (Changed ne was is isn't out) = λ res f. absurd (true_false _ (on n ne was is isn't) f)
 
-    pin : (w : ℕ) (n : Name) → (w ≡ who) ⊎ (w ≢ who) → Moved k past x n (v.cell n) (v'.cell n) → Pin k n (x ∷ past) (v'.kept w n) (v'.pinned w n) (v'.cell n).resident
+    pin : (w : ℕ) (n : Name) → (w ≡ who) ⊎ (w ≢ who) → Moved k past x n (v.cell n) (v'.cell n) → PinnedIfKept k n (x ∷ past) (v'.kept w n) (v'.pinned w n) (v'.cell n).resident
     pin w n (inl e) mv = λ kept live. absurd (true_false _ kept (ap (λ z. v'.kept z n) e ∙ b.freed n))
     pin w n (inr ne) (Still s c) = λ kept live. let k' = sym (b.kept w n ne) ∙ kept in let old = h.pins w n k' (subst IsSome s live) in let res = ap (λ z. z.resident) c ∙ old.0 in
         (res, b.pinned w n ne k' old.0 res ∙ old.1)

@@ -1,6 +1,6 @@
 -- Each event keeps that the core agrees: EventLaws, from Names, Begins, Ends, Events and Calls.
 -- What becomes of an answer: Answering, from Readings and Supply. What the core knows: Knowledge, from Facts.
--- How many names are marked: Bounds. What is saved: Saves. Parents and evidence: HomeLaws, from Homes and Evidence.
+-- How many names are marked: Bounds. What is saved: Saves. Parents and evidence: ParentLaws, from ParentsResident and Evidence.
 -- Cells: CellLaws, from Cache and Drafts for nodes, Pages for blocks, Pins.
 pub mod Names
 pub mod Begins
@@ -17,16 +17,17 @@ pub mod Supply
 pub mod Answering
 pub mod Desks
 pub mod Drafts
-pub mod Homes
+pub mod ParentsResident
 pub mod DeskLists
 pub mod Evidence
 pub mod Bounds
 pub mod Pins
 pub mod Pages
 pub mod CellLaws
-pub mod HomeLaws
+pub mod ParentLaws
 mod ExampleCounter
 mod ExamplesOfEvents
 mod ExamplesOfAgreeing
 mod ExamplesOfSaves
 mod ExamplesOfCells
+mod ExamplesOfParents

@@ -18,7 +18,7 @@ use Rattle.iris_invariant.specs.CellLaws as l
 use Rattle.iris_invariant.specs.CellLaws.{IsHeldAsShown, LeftPage, ChangesEach}
 use Rattle.iris_invariant.specs.Cells.{cell_of_page, page_touched, touched_if, TiedPage}
 use Rattle.iris_invariant.specs.Events.{touched, Still, Changed}
-use Rattle.iris_invariant.proofs.Cache.{gone_some, came_out}
+use Rattle.iris_invariant.proofs.Cache.{gone_some, touched_anew, came_out}
 
 -- a draft of pages marks whatever stands for something else, and nothing more
 pub pages_mark : l.PagesMark
@@ -82,14 +82,7 @@ left_page_out g (Some o) t = ap Some (by g.touched (t.touched g o refl refl)) wh
 -- and where a resident page is set anew, it is touched
 renewed_out : (g : PageHeld) (out : Option Out) → TiedPage (Some g) out → option_map (touched_if (touched_after g.out g.touched)) out ≡ option_map touched out
 renewed_out g None t = refl
-renewed_out g (Some o) t = by g.out refl where
-  sure : (b : Bool) → o.touched ≡ true → touched_if b o ≡ touched o
-  sure true e = refl
-  sure false e = ap (λ z. record { who = o.who; since = o.since; request = o.request; doing = o.doing; crowded = o.crowded; touched = z }) e
-
-  by : (w : Option ℕ) → g.out ≡ w → ◌≡◌ {A = Option Out} (Some (touched_if (touched_after w g.touched) o)) (Some (touched o))
-  by None e = ap Some (sure g.touched (t.unknown g o refl refl e))
-  by (Some w) e = refl
+renewed_out g (Some o) t = ap Some (touched_anew g.out g.touched o (λ e. t.unknown g o refl refl e))
 
 quiet : (out : Option Out) → option_map (touched_if false) out ≡ out
 quiet None = refl

@@ -15,7 +15,7 @@ use Rattle.iris_history.specs.Kept.{Kept}
 use Rattle.iris_history.specs.Legal.{Rules, IsLawful, IsLegal, IsBad, IsLicensed}
 use Rattle.iris_history.specs.Values.{IsRequest}
 use Rattle.iris_history.specs.StatusLaws.{called, got, putted, dropped_note}
-use Rattle.iris_invariant.specs.Agrees.{Getting, Putting, Dropping, Out, View, First, Going, IsAsked, Agrees, Stands}
+use Rattle.iris_invariant.specs.Agrees.{Getting, Putting, Dropping, Out, View, WasRight, Going, IsAsked, Agrees, Stands}
 use Rattle.iris_invariant.specs.Answering.{IsRightAnswer}
 use Rattle.iris_invariant.specs.Events as e
 use Rattle.iris_invariant.specs.Events.{Withdrawn, Brought, Answered}
@@ -49,7 +49,7 @@ module _ (k : Kept) (r : Rules) (Fits : Name → List ℕ → Type 0) (opened : 
     x = got opened o.who o.since n answer
 
     asked_for : (h : Agrees k r opened past v) → o.request ≡ Some q
-    asked_for h = request_is o (v.asked o.who) q (h.asks n o f) a (some_and _ o.request (subst (λ z. First k r n o.request o.crowded z (oldest (opened + o.since) past)) d (h.outs n o f).first).2)
+    asked_for h = request_is o (v.asked o.who) q (h.asks n o f) a (some_and _ o.request (subst (λ z. WasRight k r n o.request o.crowded z (oldest (opened + o.since) past)) d (h.outs n o f).first).2)
 
     -- `supply` of a get that failed
     pub supply_failed : IsFailure answer → Withdrawn n v v1 → let c = called opened o.who q (Refused (StoreFailed n)) in Answered k (x ∷ past) c o.who v1 v2
@@ -71,7 +71,7 @@ module _ (k : Kept) (r : Rules) (Fits : Name → List ℕ → Type 0) (opened : 
       let c = called opened o.who q (Refused (StoreFailed n)) in Answered k (y ∷ past) c o.who v1 v2 → Stands k r opened past v → Stands k r opened (c ∷ y ∷ past) v2
   stored_refused bytes d cr g b (inl bad) = inl (inr (inr bad))
   stored_refused bytes d cr g b (inr h) = let s = put_keeps k r opened past v v1 h.1 n o f bytes d false g in
-      let wait = (subst (λ z. First k r n o.request o.crowded z (oldest (opened + o.since) past)) d (h.1.outs n o f).first).2 cr in
+      let wait = (subst (λ z. WasRight k r n o.request o.crowded z (oldest (opened + o.since) past)) d (h.1.outs n o f).first).2 cr in
       let ask = request_is o (v.asked o.who) q (h.1.asks n o f) a (some_and _ o.request wait) in
       refused k r opened o.who q (StoreFailed n) (putted opened o.who o.since n bytes false ∷ past) v1 v2 is (s.0, h.0) s.1
       (at_some _ o.request q ask (put_licenses k r n opened past (v.cell n) o (h.1.outs n o f) bytes d false refl cr)) b
@@ -81,7 +81,7 @@ module _ (k : Kept) (r : Rules) (Fits : Name → List ℕ → Type 0) (opened : 
       let c = called opened o.who q (Refused (StoreFailed n)) in Answered k (y ∷ past) c o.who v1 v2 → Stands k r opened past v → Stands k r opened (c ∷ y ∷ past) v2
   gone_refused d cr g b (inl bad) = inl (inr (inr bad))
   gone_refused d cr g b (inr h) = let s = drop_keeps k r opened past v v1 h.1 n o f d false g in
-      let wait = (subst (λ z. First k r n o.request o.crowded z (oldest (opened + o.since) past)) d (h.1.outs n o f).first).1 cr in
+      let wait = (subst (λ z. WasRight k r n o.request o.crowded z (oldest (opened + o.since) past)) d (h.1.outs n o f).first).1 cr in
       let ask = request_is o (v.asked o.who) q (h.1.asks n o f) a (some_and _ o.request wait) in
       refused k r opened o.who q (StoreFailed n) (dropped_note opened o.who o.since n false ∷ past) v1 v2 is (s.0, h.0) s.1
       (at_some _ o.request q ask (drop_licenses k r n opened past (v.cell n) o (h.1.outs n o f) d false refl cr)) b

@@ -7,7 +7,7 @@ use Rattle.iris_name.specs.Names.{same_name}
 use Rattle.iris_history.specs.Crowding.{AreSeveral}
 use Rattle.iris_history.specs.Kept.{Kept, is_block, shown_in}
 use Rattle.iris_invariant.specs.Agrees.{Out, View, marked}
-use Rattle.iris_invariant.specs.Events.{Began, Withdrawn, SettledNow, Brought, Stored, Discarded, Answered, Asked, Evicted, Mended}
+use Rattle.iris_invariant.specs.Events.{Began, Withdrawn, SettlingEnded, Brought, Stored, Discarded, Answered, Asked, Evicted, Mended}
 use Rattle.iris_invariant.specs.Knowledge.{IsMarkedBlock}
 
 -- no more than so many distinct names have P
@@ -47,7 +47,7 @@ MarksNoMore v v' = (n : Name) → marked (v'.cell n) ≡ true → marked (v.cell
 pub record OthersMarkNothing : Type 0 where
   pub begins : (n : Name) (o : Out) (v v' : View) → Began n o v v' → MarksNoMore v v'
   pub withdraws : (n : Name) (v v' : View) → Withdrawn n v v' → MarksNoMore v v'
-  pub settles : (n : Name) (v v' : View) → SettledNow n v v' → MarksNoMore v v'
+  pub settles : (n : Name) (v v' : View) → SettlingEnded n v v' → MarksNoMore v v'
   pub brings : (n : Name) (o : Out) (v v' : View) → Brought n o v v' → MarksNoMore v v'
   pub stores : (n : Name) (o : Out) (ok : Bool) (v v' : View) → Stored n o ok v v' → MarksNoMore v v'
   pub discards : (n : Name) (o : Out) (ok : Bool) (v v' : View) → Discarded n o ok v v' → MarksNoMore v v'

@@ -11,7 +11,7 @@ use Rattle.iris_history.specs.Legal.{Rules, IsLawful}
 use Rattle.iris_history.specs.StatusLaws.{called, got, putted, dropped_note}
 use Rattle.iris_invariant.specs.Agrees.{Getting, Putting, Dropping, Settling, Out, View, Agrees, Stands}
 use Rattle.iris_invariant.specs.Beginnings.{begun_out, MayGet, IsChoreFor, MayPut, MayDiscard}
-use Rattle.iris_invariant.specs.Events.{Began, Withdrawn, SettledNow, Brought, Stored, Discarded, Answered, Asked, Evicted, Mended}
+use Rattle.iris_invariant.specs.Events.{Began, Withdrawn, SettlingEnded, Brought, Stored, Discarded, Answered, Asked, Evicted, Mended}
 
 -- without a note: what agreed before agrees after
 abbrev pub GoesOn : Kept → Rules → ℕ → Past → View → View → Type 0
@@ -50,7 +50,7 @@ abbrev pub WithdrawalsKeep : Kept → Rules → Type 0
 WithdrawalsKeep k r = (opened : ℕ) (past : Past) (v v' : View) (n : Name) → Withdrawn n v v' → GoesOn k r opened past v v'
 
 abbrev pub SettlingsKeep : Kept → Rules → Type 0
-SettlingsKeep k r = (opened : ℕ) (past : Past) (v v' : View) (n : Name) → SettledNow n v v' → GoesOn k r opened past v v'
+SettlingsKeep k r = (opened : ℕ) (past : Past) (v v' : View) (n : Name) → SettlingEnded n v v' → GoesOn k r opened past v v'
 
 -- a get that is out is noted, and brings nothing; or what it brings is kept
 abbrev pub FruitlessGetsKeep : Kept → Rules → Type 0

@@ -44,7 +44,7 @@ pub record Withdrawn (n : Name) (v v' : View) : Type 0 where
   pub settled : (v'.cell n).settled ≡ (v.cell n).settled
 
 -- a settling ends
-pub record SettledNow (n : Name) (v v' : View) : Type 0 where
+pub record SettlingEnded (n : Name) (v v' : View) : Type 0 where
   pub rest : Elsewhere n v v'
   pub pins : SamePins n v v'
   pub out : (v'.cell n).out ≡ None

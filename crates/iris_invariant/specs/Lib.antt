@@ -12,6 +12,6 @@ pub mod Cells
 pub mod CellLaws
 pub mod Desks
 pub mod DeskLists
-pub mod Homes
+pub mod ParentsResident
 pub mod Evidence
-pub mod HomeLaws
+pub mod ParentLaws

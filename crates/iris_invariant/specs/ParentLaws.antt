@@ -13,7 +13,7 @@ use Rattle.iris_history.specs.StatusLaws.{called, got}
 use Rattle.iris_invariant.specs.Agrees.{Getting, Out, View}
 use Rattle.iris_invariant.specs.Events.{Elsewhere, Began, Brought, Answered, Evicted}
 use Rattle.iris_invariant.specs.Evidence.{IsRecord, Evidence}
-use Rattle.iris_invariant.specs.Homes.{Homes, NoChildComes}
+use Rattle.iris_invariant.specs.ParentsResident.{ParentsResident, NoChildIsFetched}
 
 -- what leads to which name, by a test
 abbrev pub leads : {U : Type 0} → (U → Name → Bool) → U → Name → Type 0
@@ -23,12 +23,12 @@ leads links u n = links u n ≡ true
 -- note that leaves the table or by none, and the name stays resident if it was; where something begins, a get only below
 -- resident parents; where a name is evicted of which no child is being fetched; and where a call is entered.
 pub record ParentsStay (k : Kept) : Type 0 where
-  pub ends : (links : k.Unfolded → Name → Bool) (past past' : Past) (n : Name) (v v' : View) → Homes k (leads links) past v → Elsewhere n v v' → ((q : Name) → shown_in k past' q ≡ shown_in k past q)
-      → (v'.cell n).out ≡ None → ((v.cell n).resident ≡ true → (v'.cell n).resident ≡ true) → Homes k (leads links) past' v'
-  pub begins : (links : k.Unfolded → Name → Bool) (past : Past) (n : Name) (o : Out) (v v' : View) → Homes k (leads links) past v → Began n o v v'
-      → ((expect : Expect) → o.doing ≡ Getting expect → (p : Name) (u : k.Unfolded) → shown_in k past p ≡ Some u → links u n ≡ true → (v.cell p).resident ≡ true) → Homes k (leads links) past v'
-  pub evicts : (links : k.Unfolded → Name → Bool) (past : Past) (n : Name) (v v' : View) → Homes k (leads links) past v → Evicted n v v' → NoChildComes k (leads links) past v n → Homes k (leads links) past v'
-  pub calls : (links : k.Unfolded → Name → Bool) (past : Past) (x : Stamped) (who : ℕ) (v v' : View) → Homes k (leads links) past v → Answered k past x who v v' → Homes k (leads links) (x ∷ past) v'
+  pub ends : (links : k.Unfolded → Name → Bool) (past past' : Past) (n : Name) (v v' : View) → ParentsResident k (leads links) past v → Elsewhere n v v' → ((q : Name) → shown_in k past' q ≡ shown_in k past q)
+      → (v'.cell n).out ≡ None → ((v.cell n).resident ≡ true → (v'.cell n).resident ≡ true) → ParentsResident k (leads links) past' v'
+  pub begins : (links : k.Unfolded → Name → Bool) (past : Past) (n : Name) (o : Out) (v v' : View) → ParentsResident k (leads links) past v → Began n o v v'
+      → ((expect : Expect) → o.doing ≡ Getting expect → (p : Name) (u : k.Unfolded) → shown_in k past p ≡ Some u → links u n ≡ true → (v.cell p).resident ≡ true) → ParentsResident k (leads links) past v'
+  pub evicts : (links : k.Unfolded → Name → Bool) (past : Past) (n : Name) (v v' : View) → ParentsResident k (leads links) past v → Evicted n v v' → NoChildIsFetched k (leads links) past v n → ParentsResident k (leads links) past v'
+  pub calls : (links : k.Unfolded → Name → Bool) (past : Past) (x : Stamped) (who : ℕ) (v v' : View) → ParentsResident k (leads links) past v → Answered k past x who v v' → ParentsResident k (leads links) (x ∷ past) v'
 
 -- What is kept rests on a right get of its caller since that caller's last call: a get that is right is evidence for what is
 -- kept by it; a call takes its caller's names away; and any transfer leaves the evidence that there was.

@@ -1,6 +1,6 @@
 //! Laws of parents and of evidence.
 
-ghost use Rattle.iris_invariant.specs.HomeLaws.{EvidenceStays, ParentsStay};
+ghost use Rattle.iris_invariant.specs.ParentLaws.{EvidenceStays, ParentsStay};
 
 use iris_history::Portal;
 

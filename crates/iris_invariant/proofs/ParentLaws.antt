@@ -5,10 +5,10 @@ use Rattle.iris_name.specs.declared.note.Note.{Note}
 use Rattle.iris_name.specs.declared.note.Note.TheVariants.{Call, Got, Put, Dropped}
 use Rattle.iris_history.specs.Kept.{Kept}
 use Rattle.iris_history.specs.Legal.{is_transfer_of}
-use Rattle.iris_invariant.specs.HomeLaws as l
-use Rattle.iris_invariant.specs.HomeLaws.{leads}
+use Rattle.iris_invariant.specs.ParentLaws as l
+use Rattle.iris_invariant.specs.ParentLaws.{leads}
 use Rattle.iris_invariant.proofs.Evidence.{IsCallOf, got_stays, kept_evidence, call_evidence}
-use Rattle.iris_invariant.proofs.Homes.{ends_homes, begins_homes, evict_homes, call_homes}
+use Rattle.iris_invariant.proofs.ParentsResident.{ends_homes, begins_homes, evict_homes, call_homes}
 
 pub parents_stay : (k : Kept) → l.ParentsStay k
 parents_stay k = record {
