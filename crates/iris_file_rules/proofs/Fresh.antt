@@ -27,7 +27,7 @@ entry_shown order i = by (i.0 == 0) (i.0 == 1) where
   by false true = refl
   by false false = refl
 
-other_shown : (order : List ℕ) (n : Name) → is_root_name n ≡ false → shown order empty_table n ≡ None
+pub other_shown : (order : List ℕ) (n : Name) → is_root_name n ≡ false → shown order empty_table n ≡ None
 unfolding shown directory
 other_shown order (Part f l i) h = refl
 other_shown order (Block f p) h = refl
@@ -37,7 +37,7 @@ other_shown order (Entry i) h = entry_shown order i ∙ by (i.0 == 0) (i.0 == 1)
   by false true h = absurd (cc)
   by false false h = refl
 
-root_shown : (order : List ℕ) (n : Name) → is_root_name n ≡ true → IsSome (shown order empty_table n)
+pub root_shown : (order : List ℕ) (n : Name) → is_root_name n ≡ true → IsSome (shown order empty_table n)
 root_shown order (Part f l i) h = absurd (cc)
 root_shown order (Block f p) h = absurd (cc)
 root_shown order (Entry i) h = subst IsSome (sym (entry_shown order i)) (by (i.0 == 0) (i.0 == 1) h) where

@@ -12,7 +12,6 @@ use Rattle.iris_history.specs.Kept.{takes_step, table_of, after_note, shown_in, 
 use Rattle.iris_history.proofs.Pasts.{table_keeps}
 use Rattle.iris_node.specs.Unfolded.{Unfolded, Stored}
 use Rattle.iris_rows.specs.Standing.{Has, StandsInTable}
-use Rattle.iris_table_laws.specs.Ages.{StandsForOneBlock}
 use Rattle.iris_rows.specs.Changes.{stepped, after_requests}
 use Rattle.iris_rows.specs.Rows.{File, Rows, End, Row, Table}
 use Rattle.iris_records.specs.Shown.{shown, in_file, block_of_place, inside_rows, roots}

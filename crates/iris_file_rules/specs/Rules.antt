@@ -1,5 +1,5 @@
 -- What is asked of the calls of a file system whose records stand in the store.
-use Rattle.std.specs.Prelude.{◌≡◌, ◌≢◌, ◌<◌, ℕ, List, Option, slice_get}
+use Rattle.std.specs.Prelude.{◌≡◌, ◌≢◌, ◌<◌, ℕ, slice_get}
 use Rattle.iris_mac.specs.declared.keys.Keys.{Keys}
 use Rattle.iris_name.specs.declared.name.FileId.{FileId}
 use Rattle.iris_name.specs.declared.name.Name.{Name}
@@ -13,6 +13,7 @@ use Rattle.iris_history.specs.Kept.{table_of}
 use Rattle.iris_history.specs.Legal.{Rules, IsLegal, IsBad}
 use Rattle.iris_history.specs.Status.{IsDirty}
 use Rattle.iris_file_rules.specs.FileTable.{files}
+use Rattle.iris_plain.specs.Checks.{is_full}
 use Rattle.iris_rows.specs.Standing.{StandsInTable}
 use Rattle.iris_records.specs.Challenges.{table_walk}
 use Rattle.iris_rows.specs.FileChanges.{count_written}
@@ -38,7 +39,7 @@ IsDropped t id p = (f : File) × StandsInTable id.0 f t × (f.version p ≢ 0) �
 abbrev pub file_rules : Keys → Rules
 file_rules keys = record {
   replies = FileReplies keys;
-  reaches = λ past. let t = files_after keys past in Reaches keys.order (shown keys.order t) (IsDropped t) (slice_get (table_walk keys.order t));
+  reaches = λ past. let t = files_after keys past in Reaches keys.order (shown keys.order t) (is_full t.age) (IsDropped t) (slice_get (table_walk keys.order t));
   waits = MayWaitForStore (files keys);
 }
 

@@ -10,7 +10,7 @@ use Rattle.iris_history.specs.Legal.{Rules}
 use Rattle.iris_history.specs.Status.{IsClean, IsDirty, IsDoomed, IsUnsure}
 use Rattle.iris_history.proofs.Pasts.{comes_last}
 use Rattle.iris_invariant.specs.Agrees as a
-use Rattle.iris_invariant.specs.Agrees.{marked, Doing, Getting, Putting, Dropping, Settling, Out, Cell, Mark, Touch, Untouched, Touched, IsTrueOf, First, is_challenge, Gets, Now, Going}
+use Rattle.iris_invariant.specs.Agrees.{marked, Doing, Getting, Putting, Dropping, Settling, Out, Cell, Mark, Touch, Untouched, Touched, IsTrueOf, WasRight, is_challenge, Gets, StaysRight, Going}
 use Rattle.iris_history.proofs.Steady.{true_false, no_both, steady_new}
 
 pub oldest_now : (past : Past) (b : ℕ) → b ≡ length past → oldest b past ≡ past
@@ -63,11 +63,11 @@ module _ (k : Kept) (n : Name) where
     abbrev pub new : Doing → Bool → Out
     new doing crowded = record { who = who; since = since; request = request; doing = doing; crowded = crowded; touched = false }
 
-    begins : (c : Cell) (doing : Doing) (crowded : Bool) → First k r n request crowded doing past → Now k n past (is_challenge request n) c false doing → Going k r opened n past c (new doing crowded)
+    begins : (c : Cell) (doing : Doing) (crowded : Bool) → WasRight k r n request crowded doing past → StaysRight k n past (is_challenge request n) c false doing → Going k r opened n past c (new doing crowded)
     begins c doing crowded f w = record {
       began = omega (arith, e);
       alone = comes_last n (opened + since) past (omega (arith, e));
-      first = subst (First k r n request crowded doing) (sym here) f;
+      first = subst (WasRight k r n request crowded doing) (sym here) f;
       touch = Untouched refl (subst (λ b. Rattle.iris_history.specs.Status.IsSteady k n b past) (sym e) (steady_new k n past));
       now = w;
     }

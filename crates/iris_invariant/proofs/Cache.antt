@@ -12,7 +12,7 @@ use Rattle.iris_invariant.specs.Cells.{cell_of, redoomed, held_touched, touched_
 use Rattle.iris_invariant.specs.Events.{touched, Moved, Still, Changed}
 use Rattle.iris_history.proofs.Steady.{true_false}
 
-gone_some : {A : Type 0} (o : Option A) → IsSome o → IsNone o → ⊥
+pub gone_some : {A : Type 0} (o : Option A) → IsSome o → IsNone o → ⊥
 gone_some None s m = absurd (cc)
 gone_some (Some u) s m = absurd (cc)
 
@@ -27,22 +27,20 @@ left_out g h (Some o) t e = ap Some (by h.touched (λ f. t.touched g o refl refl
   by true f = out_is true (sym (f refl))
   by false f = out_is o.touched refl
 
--- and where a resident node moved, it is touched
-moved_out : (g : Held) (out : Option Out) → Tied (Some g) out → option_map (touched_if (touched_after g.out g.touched)) out ≡ option_map touched out
-moved_out g None t = refl
-moved_out g (Some o) t = by g.out refl where
-  on : touched_if true o ≡ touched o
-  on = refl
-
+-- what is out is touched where its holder is set anew: it was known there, or touched before
+pub touched_anew : (w : Option ℕ) (t : Bool) (o : Out) → (w ≡ None → o.touched ≡ true) → touched_if (touched_after w t) o ≡ touched o
+touched_anew (Some who) t o f = refl
+touched_anew None t o f = sure t (f refl) where
   sure : (b : Bool) → o.touched ≡ true → touched_if b o ≡ touched o
   sure true e = refl
   sure false e = ap (λ z. record { who = o.who; since = o.since; request = o.request; doing = o.doing; crowded = o.crowded; touched = z }) e
 
-  by : (w : Option ℕ) → g.out ≡ w → ◌≡◌ {A = Option Out} (Some (touched_if (touched_after w g.touched) o)) (Some (touched o))
-  by None e = ap Some (sure g.touched (t.unknown g o refl refl e))
-  by (Some w) e = refl
+-- so where a resident node moved
+moved_out : (g : Held) (out : Option Out) → Tied (Some g) out → option_map (touched_if (touched_after g.out g.touched)) out ≡ option_map touched out
+moved_out g None t = refl
+moved_out g (Some o) t = ap Some (touched_anew g.out g.touched o (λ e. t.unknown g o refl refl e))
 
-came_out : (out : Option Out) → option_map (touched_if true) out ≡ option_map touched out
+pub came_out : (out : Option Out) → option_map (touched_if true) out ≡ option_map touched out
 came_out None = refl
 came_out (Some o) = refl
 

@@ -12,7 +12,7 @@ use Rattle.iris_invariant.specs.Cells.{cell_of, dirty_in, settled_in, Tied}
 use Rattle.iris_invariant.specs.Desks as d
 use Rattle.iris_invariant.specs.Desks.{Desks, view_of, pinned_in}
 use Rattle.iris_invariant.specs.Events as e
-use Rattle.iris_invariant.specs.Events.{Elsewhere, SamePins, Began, RequestGivenUp}
+use Rattle.iris_invariant.specs.Events.{Elsewhere, SamePins, Began, Withdrawn}
 use Rattle.iris_invariant.proofs.Cache.{finished_so, unknown_stays}
 use Rattle.iris_history.proofs.Steady.{unchosen}
 

@@ -16,7 +16,7 @@ use Rattle.iris_history.specs.Legal.{Rules, IsLawful, IsLicensed, BeginsInTurn}
 use Rattle.iris_history.specs.Status.{IsSteady, IsClean, IsDirty, IsDoomed, IsUnsure}
 use Rattle.iris_history.specs.StatusLaws.{Fetched, got, putted, dropped_note}
 use Rattle.iris_invariant.specs.Agrees as a
-use Rattle.iris_invariant.specs.Agrees.{marked, Doing, Getting, Putting, Dropping, Settling, Out, Cell, Mark, Touch, Untouched, Touched, First, is_challenge, Gets, Now, Going}
+use Rattle.iris_invariant.specs.Agrees.{marked, Doing, Getting, Putting, Dropping, Settling, Out, Cell, Mark, Touch, Untouched, Touched, WasRight, is_challenge, Gets, StaysRight, Going}
 use Rattle.iris_history.proofs.Steady.{true_false, no_both, steady_none, none_steady, began_at}
 use Rattle.iris_history.proofs.NoteStatus.{got_law, put_law, put_gone, drop_live, drop_gone}
 use Rattle.iris_invariant.proofs.Names.{then_now, touched_unclean}
@@ -50,11 +50,11 @@ module _ (k : Kept) (r : Rules) (n : Name) (opened : ℕ) (past : Past) (c : Cel
   in_turn : BeginsInTurn opened n o.since past
   in_turn = (g.began, g.alone)
 
-  first_of : (doing : Doing) → o.doing ≡ doing → First k r n o.request o.crowded doing (oldest b past)
-  first_of doing d = subst (λ z. First k r n o.request o.crowded z (oldest b past)) d g.first
+  first_of : (doing : Doing) → o.doing ≡ doing → WasRight k r n o.request o.crowded doing (oldest b past)
+  first_of doing d = subst (λ z. WasRight k r n o.request o.crowded z (oldest b past)) d g.first
 
-  now_of : (doing : Doing) → o.doing ≡ doing → Now k n past (is_challenge o.request n) c o.touched doing
-  now_of doing d = subst (Now k n past (is_challenge o.request n) c o.touched) d g.now
+  now_of : (doing : Doing) → o.doing ≡ doing → StaysRight k n past (is_challenge o.request n) c o.touched doing
+  now_of doing d = subst (StaysRight k n past (is_challenge o.request n) c o.touched) d g.now
 
   -- the history in which it began, as its note tells it
   pub begun_then : (note : Note) → since_of note (length past) ≡ o.since → begun past (record { note = note; opened = opened }) ≡ oldest b past

@@ -1,31 +1,26 @@
 -- Each event keeps that the core agrees with the history.
 use Rattle.std.proofs.Common.{◌≡◌, ◌≢◌, ◌⊎◌, inl, inr, ℕ, ◌+◌, List, ◌∷◌, Bool, true, false, cond, not, ◌&&◌, ◌||◌, Option, Some, None, refl, sym, ◌∙◌, ap, subst, IsSome, IsNone}
-use Rattle.std.specs.Prelude.{option_map}
 use Rattle.std.proofs.lemmas.Bool.Decides.{eqb_tells}
 use Rattle.iris_name.specs.declared.name.Name.{Name}
 use Rattle.iris_name.specs.declared.note.Answer.{Answer}
 use Rattle.iris_name.specs.declared.note.Expect.{Expect}
-use Rattle.iris_name.specs.declared.note.Note.{Note}
-use Rattle.iris_name.specs.declared.request.Reply.{Reply}
-use Rattle.iris_name.specs.declared.request.Request.{Request}
 use Rattle.iris_name.specs.History.{Past, Stamped, oldest, begun}
 use Rattle.iris_name.specs.Names.{same_name}
 use Rattle.iris_name.specs.NameLaws.{same_name-true, same_name-symm}
 use Rattle.iris_history.specs.Kept.{Kept, Carries, shown_in}
 use Rattle.iris_history.specs.Legal.{Rules, is_transfer_of, IsLawful}
-use Rattle.iris_history.specs.StatusLaws.{called, got, putted, dropped_note}
+use Rattle.iris_history.specs.StatusLaws.{got, putted, dropped_note}
 use Rattle.iris_invariant.specs.Agrees as a
-use Rattle.iris_invariant.specs.Agrees.{marked, MarkListed, Doing, Getting, Putting, Dropping, Settling, Out, Cell, View, Mark, Touch, First, is_challenge, Gets, Now, Going, IsAsked, Settled, Pin, Agrees, Stands}
+use Rattle.iris_invariant.specs.Agrees.{marked, MarkListed, Doing, Getting, Putting, Dropping, Settling, Out, Cell, View, Mark, Touch, WasRight, is_challenge, Gets, StaysRight, Going, IsAsked, SettledUnlessMarked, PinnedIfKept, Agrees, Stands}
 use Rattle.iris_invariant.specs.Events as e
-use Rattle.iris_invariant.specs.Events.{IsDirtied, IsRequestGivenUp, touched, Elsewhere, SamePins, Began, RequestGivenUp, SettledNow, Brings, Pinned, Inserted, Passed, Brought, Moved, Still, Changed, Answered, Asked, Evicted, Mended}
+use Rattle.iris_invariant.specs.Events.{IsKeptDirty, IsKeptDoomed, touched, Elsewhere, SamePins, Began, Withdrawn, SettlingEnded, Brings, Pinned, Inserted, Passed, Brought, Moved, Still, Changed, Answered, Asked, Evicted, Mended}
 use Rattle.iris_history.proofs.Steady.{true_false, no_both}
 use Rattle.iris_history.proofs.NoteStatus.{passes_by, drop_live}
-use Rattle.iris_invariant.proofs.Names.{then_now, mark_stays, mark_changed, going_stays, going_changed, got_live}
-use Rattle.iris_invariant.proofs.Begins.{resident_live}
+use Rattle.iris_invariant.proofs.Names.{then_now, mark_stays, going_stays, got_live}
 use Rattle.iris_invariant.proofs.Ends.{mark_got, mark_put, mark_drop, got_lawful, put_lawful, drop_lawful, left}
 
 -- what isn't taken away was there
-was_on : (u b : Bool) → cond u false b ≡ true → b ≡ true
+pub was_on : (u b : Bool) → cond u false b ≡ true → b ≡ true
 was_on true b e = absurd (cc)
 was_on false b e = e
 
@@ -81,7 +76,7 @@ module _ (k : Kept) (r : Rules) (opened : ℕ) (past : Past) (v v' : View) (h : 
   module _ (n : Name) (el : Elsewhere n v v') where
     -- under no note
     pub quietly : Mark k n past (v'.cell n).resident (marked (v'.cell n)) → ((o : Out) → (v'.cell n).out ≡ Some o → Going k r opened n past (v'.cell n) o × IsAsked o (v'.asked o.who))
-        → MarkListed (v'.cell n) → Settled (v'.cell n) → ((w : ℕ) → Pin k n past (v'.kept w n) (v'.pinned w n) (v'.cell n).resident) → Agrees k r opened past v'
+        → MarkListed (v'.cell n) → SettledUnlessMarked (v'.cell n) → ((w : ℕ) → PinnedIfKept k n past (v'.kept w n) (v'.pinned w n) (v'.cell n).resident) → Agrees k r opened past v'
     quietly mark outs list set pins = record { marks = λ q. marks q (which n q); outs = λ q o f. (out q (which n q) o f).0; asks = λ q o f. (out q (which n q) o f).1; listed = λ q. lists q (which n q); settled = λ q. settle q (which n q); pins = λ w q. pin w q (which n q) } where
       marks : (q : Name) → (n ≡ q) ⊎ (same_name n q ≡ false) → Mark k q past (v'.cell q).resident (marked (v'.cell q))
       marks q (inl s) = subst (λ z. Mark k z past (v'.cell z).resident (marked (v'.cell z))) s mark
@@ -96,22 +91,22 @@ module _ (k : Kept) (r : Rules) (opened : ℕ) (past : Past) (v v' : View) (h : 
       lists q (inl s) = subst (λ z. MarkListed (v'.cell z)) s list
       lists q (inr d) = subst MarkListed (sym (el.cell q d)) (h.listed q)
 
-      settle : (q : Name) → (n ≡ q) ⊎ (same_name n q ≡ false) → Settled (v'.cell q)
-      settle q (inl s) = subst (λ z. Settled (v'.cell z)) s set
-      settle q (inr d) = subst Settled (sym (el.cell q d)) (h.settled q)
+      settle : (q : Name) → (n ≡ q) ⊎ (same_name n q ≡ false) → SettledUnlessMarked (v'.cell q)
+      settle q (inl s) = subst (λ z. SettledUnlessMarked (v'.cell z)) s set
+      settle q (inr d) = subst SettledUnlessMarked (sym (el.cell q d)) (h.settled q)
 
-      pin : (w : ℕ) (q : Name) → (n ≡ q) ⊎ (same_name n q ≡ false) → Pin k q past (v'.kept w q) (v'.pinned w q) (v'.cell q).resident
-      pin w q (inl s) = subst (λ z. Pin k z past (v'.kept w z) (v'.pinned w z) (v'.cell z).resident) s (pins w)
+      pin : (w : ℕ) (q : Name) → (n ≡ q) ⊎ (same_name n q ≡ false) → PinnedIfKept k q past (v'.kept w q) (v'.pinned w q) (v'.cell q).resident
+      pin w q (inl s) = subst (λ z. PinnedIfKept k z past (v'.kept w z) (v'.pinned w z) (v'.cell z).resident) s (pins w)
       pin w q (inr d) = λ kept live. let old = h.pins w q (sym (el.kept w q d) ∙ kept) live in (ap (λ c. c.resident) (el.cell q d) ∙ old.0, el.pinned w q d ∙ old.1)
 
-    same_pins : SamePins n v v' → (v'.cell n).resident ≡ (v.cell n).resident → (x : Past) → shown_in k x n ≡ shown_in k past n → (w : ℕ) → Pin k n x (v'.kept w n) (v'.pinned w n) (v'.cell n).resident
+    same_pins : SamePins n v v' → (v'.cell n).resident ≡ (v.cell n).resident → (x : Past) → shown_in k x n ≡ shown_in k past n → (w : ℕ) → PinnedIfKept k n x (v'.kept w n) (v'.pinned w n) (v'.cell n).resident
     same_pins p res x same w kept live = let old = h.pins w n (sym (p.kept w) ∙ kept) (subst IsSome same live) in (res ∙ old.0, p.pinned w ∙ old.1)
 
   -- a transfer of a name ends by its note
   module _ (n : Name) (el : Elsewhere n v v') (x : Stamped) (transfer : (q : Name) → same_name n q ≡ false → is_transfer_of q x.note ≡ false)
       (table : (q : Name) → shown_in k (x ∷ past) q ≡ shown_in k past q) where
     pub noted : Mark k n (x ∷ past) (v'.cell n).resident (marked (v'.cell n)) → (v'.cell n).out ≡ None
-        → MarkListed (v'.cell n) → Settled (v'.cell n) → ((w : ℕ) → Pin k n (x ∷ past) (v'.kept w n) (v'.pinned w n) (v'.cell n).resident) → Agrees k r opened (x ∷ past) v'
+        → MarkListed (v'.cell n) → SettledUnlessMarked (v'.cell n) → ((w : ℕ) → PinnedIfKept k n (x ∷ past) (v'.kept w n) (v'.pinned w n) (v'.cell n).resident) → Agrees k r opened (x ∷ past) v'
     noted mark none list set pins = record { marks = λ q. marks q (which n q); outs = λ q. out q (which n q); asks = λ q. ask q (which n q); listed = λ q. lists q (which n q); settled = λ q. settle q (which n q); pins = λ w q. pin w q (which n q) } where
       marks : (q : Name) → (n ≡ q) ⊎ (same_name n q ≡ false) → Mark k q (x ∷ past) (v'.cell q).resident (marked (v'.cell q))
       marks q (inl s) = subst (λ z. Mark k z (x ∷ past) (v'.cell z).resident (marked (v'.cell z))) s mark
@@ -130,12 +125,12 @@ module _ (k : Kept) (r : Rules) (opened : ℕ) (past : Past) (v v' : View) (h : 
       lists q (inl s) = subst (λ z. MarkListed (v'.cell z)) s list
       lists q (inr d) = subst MarkListed (sym (el.cell q d)) (h.listed q)
 
-      settle : (q : Name) → (n ≡ q) ⊎ (same_name n q ≡ false) → Settled (v'.cell q)
-      settle q (inl s) = subst (λ z. Settled (v'.cell z)) s set
-      settle q (inr d) = subst Settled (sym (el.cell q d)) (h.settled q)
+      settle : (q : Name) → (n ≡ q) ⊎ (same_name n q ≡ false) → SettledUnlessMarked (v'.cell q)
+      settle q (inl s) = subst (λ z. SettledUnlessMarked (v'.cell z)) s set
+      settle q (inr d) = subst SettledUnlessMarked (sym (el.cell q d)) (h.settled q)
 
-      pin : (w : ℕ) (q : Name) → (n ≡ q) ⊎ (same_name n q ≡ false) → Pin k q (x ∷ past) (v'.kept w q) (v'.pinned w q) (v'.cell q).resident
-      pin w q (inl s) = subst (λ z. Pin k z (x ∷ past) (v'.kept w z) (v'.pinned w z) (v'.cell z).resident) s (pins w)
+      pin : (w : ℕ) (q : Name) → (n ≡ q) ⊎ (same_name n q ≡ false) → PinnedIfKept k q (x ∷ past) (v'.kept w q) (v'.pinned w q) (v'.cell q).resident
+      pin w q (inl s) = subst (λ z. PinnedIfKept k z (x ∷ past) (v'.kept w z) (v'.pinned w z) (v'.cell z).resident) s (pins w)
       pin w q (inr d) = λ kept live. let old = h.pins w q (sym (el.kept w q d) ∙ kept) (subst IsSome (table q) live) in (ap (λ c. c.resident) (el.cell q d) ∙ old.0, el.pinned w q d ∙ old.1)
 
   -- something begins
@@ -151,7 +146,7 @@ module _ (k : Kept) (r : Rules) (opened : ℕ) (past : Past) (v v' : View) (h : 
       some_same o o' e = cc
 
   -- something is given up without a note
-  pub given_up_keeps : (n : Name) → RequestGivenUp n v v' → Agrees k r opened past v'
+  pub given_up_keeps : (n : Name) → Withdrawn n v v' → Agrees k r opened past v'
   given_up_keeps n b = quietly n b.rest
       (subst (λ z. Mark k n past (v'.cell n).resident z) (sym (same_marked (v.cell n) (v'.cell n) b.dirty b.doomed)) (subst (λ z. Mark k n past z (marked (v.cell n))) (sym b.resident) (h.marks n)))
       (λ o f. absurd (none_some (v'.cell n).out o b.out f))
@@ -159,7 +154,7 @@ module _ (k : Kept) (r : Rules) (opened : ℕ) (past : Past) (v v' : View) (h : 
       (λ res m. b.settled ∙ h.settled n (sym b.resident ∙ res) (sym (same_marked (v.cell n) (v'.cell n) b.dirty b.doomed) ∙ m))
       (same_pins n b.rest b.pins b.resident past refl)
 
-  pub settled_keeps : (n : Name) → SettledNow n v v' → Agrees k r opened past v'
+  pub settled_keeps : (n : Name) → SettlingEnded n v v' → Agrees k r opened past v'
   settled_keeps n b = quietly n b.rest
       (subst (λ z. Mark k n past (v'.cell n).resident z) (sym (same_marked (v.cell n) (v'.cell n) b.dirty b.doomed)) (subst (λ z. Mark k n past z (marked (v.cell n))) (sym b.resident) (h.marks n)))
       (λ o f. absurd (none_some (v'.cell n).out o b.out f))
@@ -213,7 +208,7 @@ module _ (k : Kept) (r : Rules) (opened : ℕ) (past : Past) (v v' : View) (h : 
     outs = outs;
     asks = asks;
     listed = λ n. subst MarkListed (sym (b.cell n)) (h.listed n);
-    settled = λ n. subst Settled (sym (b.cell n)) (h.settled n);
+    settled = λ n. subst SettledUnlessMarked (sym (b.cell n)) (h.settled n);
     pins = λ w n kept live. (let old = h.pins w n (sym (b.kept w n) ∙ kept) live in (ap (λ c. c.resident) (b.cell n) ∙ old.0, b.pinned w n ∙ old.1));
   } where
     back : (n : Name) (o : Out) → (v'.cell n).out ≡ Some o → (v.cell n).out ≡ Some o
@@ -247,7 +242,7 @@ module _ (k : Kept) (r : Rules) (opened : ℕ) (past : Past) (v v' : View) (h : 
       x = got opened o.who o.since n answer
 
       -- a get is noted, and given up
-      pub got_given_up : RequestGivenUp n v v' → IsLawful k r opened past (begun past x) x.note × Agrees k r opened (x ∷ past) v'
+      pub got_given_up : Withdrawn n v v' → IsLawful k r opened past (begun past x) x.note × Agrees k r opened (x ∷ past) v'
       got_given_up b = (
         got_lawful k r n opened past (v.cell n) o g expect d answer,
         noted n b.rest x (swap n) (λ q. refl)
@@ -256,7 +251,7 @@ module _ (k : Kept) (r : Rules) (opened : ℕ) (past : Past) (v v' : View) (h : 
       )
 
       gets : Gets k n past (is_challenge o.request n) (v.cell n) o.touched
-      gets = subst (Now k n past (is_challenge o.request n) (v.cell n) o.touched) d g.now
+      gets = subst (StaysRight k n past (is_challenge o.request n) (v.cell n) o.touched) d g.now
 
       -- a get is noted, and its answer is kept
       pub got_kept : Brought n o v v' → IsLawful k r opened past (begun past x) x.note × Agrees k r opened (x ∷ past) v'
@@ -287,7 +282,7 @@ module _ (k : Kept) (r : Rules) (opened : ℕ) (past : Past) (v v' : View) (h : 
         list (Inserted z t z' s p) = record { dirty = λ w. z'; doomed = λ w. absurd (true_false _ w (b.doomed ∙ (off t).1)) }
         list (Passed z t z') = same_listed (v.cell n) (v'.cell n) (z' ∙ sym z) b.dirty b.doomed (h.listed n)
 
-        set : Is → Settled (v'.cell n)
+        set : Is → SettledUnlessMarked (v'.cell n)
         set (Pinned z z' s p q) = λ res m. s ∙ h.settled n z (sym (same_marked (v.cell n) (v'.cell n) b.dirty b.doomed) ∙ m)
         set (Inserted z t z' s p) = λ res m. s
         set (Passed z t z') = λ res m. absurd (true_false _ res z')
@@ -302,8 +297,8 @@ module _ (k : Kept) (r : Rules) (opened : ℕ) (past : Past) (v v' : View) (h : 
         other (Inserted z t z' s p) w ne res old = absurd (true_false _ res z)
         other (Passed z t z') w ne res old = absurd (true_false _ res z)
 
-        pin : (w : ℕ) → (w ≡ o.who) ⊎ (w ≢ o.who) → Pin k n (x ∷ past) (v'.kept w n) (v'.pinned w n) (v'.cell n).resident
-        pin w (inl e) = subst (λ z. Pin k n (x ∷ past) (v'.kept z n) (v'.pinned z n) (v'.cell n).resident) (sym e) (λ kept live. mine b.brings live)
+        pin : (w : ℕ) → (w ≡ o.who) ⊎ (w ≢ o.who) → PinnedIfKept k n (x ∷ past) (v'.kept w n) (v'.pinned w n) (v'.cell n).resident
+        pin w (inl e) = subst (λ z. PinnedIfKept k n (x ∷ past) (v'.kept z n) (v'.pinned z n) (v'.cell n).resident) (sym e) (λ kept live. mine b.brings live)
         pin w (inr ne) = λ kept live. (let old = h.pins w n (sym (b.others w ne) ∙ kept) live in other b.brings w ne old.0 old.1)
 
     -- a put is noted
@@ -320,15 +315,15 @@ module _ (k : Kept) (r : Rules) (opened : ℕ) (past : Past) (v v' : View) (h : 
             (λ res m. b.settled ∙ now.1 (went ok o.touched (marked (v.cell n)) now.0 (sym marks ∙ m))) (same_pins n b.rest b.pins b.resident (y ∷ past) refl),
       ) where
         now : ((marked (v.cell n)) ≡ true) × (o.touched ≡ false → (v.cell n).settled ≡ true)
-        now = subst (Now k n past (is_challenge o.request n) (v.cell n) o.touched) d g.now
+        now = subst (StaysRight k n past (is_challenge o.request n) (v.cell n) o.touched) d g.now
 
         went : (ok touched marked : Bool) → marked ≡ true → left ok touched marked ≡ false → touched ≡ false
         went ok false marked m e = refl
         went true true marked m e = absurd (true_false marked m e)
         went false true marked m e = absurd (true_false marked m e)
 
-        first : First k r n o.request o.crowded (Putting bytes) (oldest (opened + o.since) past)
-        first = subst (λ z. First k r n o.request o.crowded z (oldest (opened + o.since) past)) d g.first
+        first : WasRight k r n o.request o.crowded (Putting bytes) (oldest (opened + o.since) past)
+        first = subst (λ z. WasRight k r n o.request o.crowded z (oldest (opened + o.since) past)) d g.first
 
         live : (ok && not o.touched) ≡ true → IsSome (shown_in k past n)
         live e = by g.touch where
@@ -354,8 +349,8 @@ module _ (k : Kept) (r : Rules) (opened : ℕ) (past : Past) (v v' : View) (h : 
             (record { dirty = λ w. b.resident ∙ (h.listed n).dirty (sym b.dirty ∙ w); doomed = λ w. b.resident ∙ (h.listed n).doomed (was_on (ok && not o.touched) (v.cell n).doomed (sym b.doomed ∙ w)) })
             (λ res m. unsettled mark res m) (same_pins n b.rest b.pins b.resident (z ∷ past) refl),
       ) where
-        first : First k r n o.request o.crowded Dropping (oldest (opened + o.since) past)
-        first = subst (λ w. First k r n o.request o.crowded w (oldest (opened + o.since) past)) d g.first
+        first : WasRight k r n o.request o.crowded Dropping (oldest (opened + o.since) past)
+        first = subst (λ w. WasRight k r n o.request o.crowded w (oldest (opened + o.since) past)) d g.first
 
         gone : (ok && not o.touched) ≡ true → IsNone (shown_in k past n)
         gone e = by g.touch where
@@ -378,69 +373,3 @@ module _ (k : Kept) (r : Rules) (opened : ℕ) (past : Past) (v v' : View) (h : 
         unsettled (a.Dirty s ab m un) res f = absurd (true_false _ m f)
         unsettled (a.Unsure ab m u) res f = absurd (true_false _ m f)
         unsettled (a.Doomed ab m dd) res f = absurd (true_false _ m f)
-
-  -- a call is entered
-  pub call_keeps : (who : ℕ) (request : Request) (reply : Reply) → let x = called opened who request reply in Answered k past x who v v' → Agrees k r opened (x ∷ past) v'
-  call_keeps who request reply b = record { marks = λ n. marks n (b.moved n); outs = λ n. outs n (b.moved n); asks = λ n. asks n (b.moved n); listed = λ n. list n (b.moved n); settled = λ n. set n (b.moved n); pins = λ w n. pin w n (which_caller who w) (b.moved n) } where
-    x : Stamped
-    x = called opened who request reply
-
-    on : (n : Name) → shown_in k (x ∷ past) n ≢ shown_in k past n → (IsSome (shown_in k past n) → (v.cell n).resident ≡ true) → (IsSome (shown_in k (x ∷ past) n) → IsDirtied (v'.cell n)) → (IsNone (shown_in k (x ∷ past) n) → IsRequestGivenUp (v'.cell n)) → marked (v'.cell n) ≡ true
-    on n ne was is isn't = by (shown_in k (x ∷ past) n) refl where
-      by : (o : Option k.Unfolded) → shown_in k (x ∷ past) n ≡ o → marked (v'.cell n) ≡ true
-      by None e = or_right (v'.cell n).dirty _ (isn't (subst IsNone (sym e) refl)).doomed
-      by (Some u) e = or_left (v'.cell n).dirty _ (is (subst IsSome (sym e) refl)).dirty
-
-    lives : (o : Option k.Unfolded) → IsSome o ⊎ IsNone o
-    lives None = inr refl
-    lives (Some u) = inl refl
-
-    list : (n : Name) → Moved k past x n (v.cell n) (v'.cell n) → MarkListed (v'.cell n)
-    list n (Still s c) = subst MarkListed (sym c) (h.listed n)
-    list n (Changed ne was is isn't out) = elim (lives (shown_in k (x ∷ past) n)) [
-      | inl l ↦ record { dirty = λ z. (is l).resident; doomed = λ z. absurd (true_false _ z (is l).doomed) }
-      | inr l ↦ record { dirty = λ z. absurd (true_false _ z (isn't l).dirty); doomed = λ z. (isn't l).resident }
-    ]
-
-    marks : (n : Name) → Moved k past x n (v.cell n) (v'.cell n) → Mark k n (x ∷ past) (v'.cell n).resident (marked (v'.cell n))
-    marks n (Still s c) = subst (λ z. Mark k n (x ∷ past) z.resident (marked z)) (sym c) (mark_stays k n x past _ _ (passes_by k n past x refl s) s (h.marks n))
-    marks n (Changed ne was is isn't out) = mark_changed k n opened who request reply past _ _ ne (λ l. (is l).resident) (λ l. (isn't l).resident) (on n ne was is isn't)
-
-    come : (n : Name) (c : Option Out) (o : Out) → option_map touched c ≡ Some o → (p : Out) × (c ≡ Some p) × (touched p ≡ o)
-    come n None o e = absurd (cc)
-    come n (Some p) o e = (p, refl, cc)
-
-    outs : (n : Name) → Moved k past x n (v.cell n) (v'.cell n) → (o : Out) → (v'.cell n).out ≡ Some o → Going k r opened n (x ∷ past) (v'.cell n) o
-    outs n (Still s c) = λ o f. let f' = sym (ap (λ z. z.out) c) ∙ f in
-        subst (λ z. Going k r opened n (x ∷ past) z o) (sym c) (going_stays k n r opened x past (v.cell n) o refl s (h.outs n o f'))
-    outs n (Changed ne was is isn't out) = λ o f. let p = come n (v.cell n).out o (sym out ∙ f) in
-        subst (Going k r opened n (x ∷ past) (v'.cell n)) p.2 (going_changed k n r opened x past (v.cell n) (v'.cell n) p.0 refl ne was (λ l. (is l).resident) (on n ne was is isn't) (h.outs n p.0 p.1))
-
-    asks : (n : Name) → Moved k past x n (v.cell n) (v'.cell n) → (o : Out) → (v'.cell n).out ≡ Some o → IsAsked o (v'.asked o.who)
-    asks n (Still s c) = λ o f. let f' = sym (ap (λ z. z.out) c) ∙ f in subst (IsAsked o) (sym (b.asked o.who (b.idle n o f'))) (h.asks n o f')
-    asks n (Changed ne was is isn't out) = λ o f. let p = come n (v.cell n).out o (sym out ∙ f) in
-        subst (λ z. IsAsked z (v'.asked z.who)) p.2 (subst (λ q. IsAsked (touched p.0) q) (sym (b.asked p.0.who (b.idle n p.0 p.1))) (h.asks n p.0 p.1))
-
-    set : (n : Name) → Moved k past x n (v.cell n) (v'.cell n) → Settled (v'.cell n)
-    set n (Still s c) = subst Settled (sym c) (h.settled n)
-    set n (Changed ne was is isn't out) = λ res f. absurd (true_false _ (on n ne was is isn't) f)
-
-    pin : (w : ℕ) (n : Name) → (w ≡ who) ⊎ (w ≢ who) → Moved k past x n (v.cell n) (v'.cell n) → Pin k n (x ∷ past) (v'.kept w n) (v'.pinned w n) (v'.cell n).resident
-    pin w n (inl e) mv = λ kept live. absurd (true_false _ kept (ap (λ z. v'.kept z n) e ∙ b.freed n))
-    pin w n (inr ne) (Still s c) = λ kept live. let k' = sym (b.kept w n ne) ∙ kept in let old = h.pins w n k' (subst IsSome s live) in let res = ap (λ z. z.resident) c ∙ old.0 in
-        (res, b.pinned w n ne k' old.0 res ∙ old.1)
-    pin w n (inr ne) (Changed df was is isn't out) = λ kept live. let k' = sym (b.kept w n ne) ∙ kept in ((is live).resident, here (v.cell n).resident k' (is live).resident refl) where
-      here : (z : Bool) → v.kept w n ≡ true → (v'.cell n).resident ≡ true → (v.cell n).resident ≡ z → v'.pinned w n ≡ true
-      here true k' res e = b.pinned w n ne k' e res ∙ (h.pins w n k' (resident_live k n past _ _ (h.marks n) e)).1
-      here false k' res e = b.again w n ne k' e res
-
--- a lawful note keeps that the history is bad, or legal and as the core keeps it
-pub stands_note : (k : Kept) (r : Rules) (opened : ℕ) (past : Past) (note : Note) (v v' : View) → let x : Stamped = record { note = note; opened = opened } in
-    (Agrees k r opened past v → IsLawful k r opened past (begun past x) note × Agrees k r opened (x ∷ past) v') → Stands k r opened past v → Stands k r opened (x ∷ past) v'
-stands_note k r opened past note v v' f (inl bad) = inl (inr bad)
-stands_note k r opened past note v v' f (inr h) = let g = f h.1 in inr ((g.0, h.0), g.1)
-
--- an event without a note
-pub stands_quiet : (k : Kept) (r : Rules) (opened : ℕ) (past : Past) (v v' : View) → (Agrees k r opened past v → Agrees k r opened past v') → Stands k r opened past v → Stands k r opened past v'
-stands_quiet k r opened past v v' f (inl bad) = inl bad
-stands_quiet k r opened past v v' f (inr h) = inr (h.0, f h.1)

@@ -18,7 +18,7 @@ use Rattle.iris_invariant.specs.Evidence.{IsRecord, WasGot, Evidence}
 use Rattle.iris_invariant.proofs.Events.{which}
 use Rattle.iris_history.proofs.Steady.{true_false}
 
-abbrev IsCallOf : ℕ → Note → Type 0
+abbrev pub IsCallOf : ℕ → Note → Type 0
 IsCallOf who (Call w request reply) = w ≡ who
 IsCallOf who (Got w since m answer) = ⊥
 IsCallOf who (Put w since m bytes ok) = ⊥

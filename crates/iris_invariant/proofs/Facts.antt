@@ -13,7 +13,7 @@ use Rattle.iris_history.specs.Status.{IsClean, IsDirty, IsUnsure}
 use Rattle.iris_history.specs.Values.{IsRequest}
 use Rattle.iris_history.specs.StatusLaws.{called}
 use Rattle.iris_invariant.specs.Agrees as a
-use Rattle.iris_invariant.specs.Agrees.{marked, MarkListed, Getting, Out, Cell, View, Mark, Touch, IsTrueOf, First, is_challenge, Gets, Now, Going, Agrees}
+use Rattle.iris_invariant.specs.Agrees.{marked, MarkListed, Getting, Out, Cell, View, Mark, Touch, IsTrueOf, WasRight, is_challenge, Gets, StaysRight, Going, Agrees}
 use Rattle.iris_history.proofs.Steady.{true_false}
 use Rattle.iris_invariant.proofs.Names.{then_now, got_live}
 use Rattle.iris_invariant.proofs.Begins.{unmarked_clean, unmarked_not_dirty}
@@ -55,11 +55,11 @@ module _ (k : Kept) (r : Rules) (opened : ℕ) (past : Past) (v : View) (h : Agr
     g : Going k r opened n past (v.cell n) o
     g = h.outs n o f
 
-    first : First k r n o.request o.crowded (Getting expect) (oldest (opened + o.since) past)
-    first = subst (λ z. First k r n o.request o.crowded z (oldest (opened + o.since) past)) d g.first
+    first : WasRight k r n o.request o.crowded (Getting expect) (oldest (opened + o.since) past)
+    first = subst (λ z. WasRight k r n o.request o.crowded z (oldest (opened + o.since) past)) d g.first
 
     gets : Gets k n past (is_challenge o.request n) (v.cell n) o.touched
-    gets = subst (Now k n past (is_challenge o.request n) (v.cell n) o.touched) d g.now
+    gets = subst (StaysRight k n past (is_challenge o.request n) (v.cell n) o.touched) d g.now
 
     t : o.touched ≡ false
     t = (gets.absent ch).1

@@ -11,7 +11,7 @@ use Rattle.iris_history.specs.Status.{IsSteady, IsStored, IsClean}
 use Rattle.iris_history.proofs.Pasts.{AllSince-map, AllSince-now, AllSince-at, BeganBy, last_began, oldest_more}
 use Rattle.iris_history.specs.StatusLaws.{KeepsStatus, called}
 use Rattle.iris_invariant.specs.Agrees as a
-use Rattle.iris_invariant.specs.Agrees.{marked, Doing, Getting, Putting, Dropping, Settling, Out, Cell, Mark, Touch, Untouched, Touched, First, is_challenge, Gets, Now, Going}
+use Rattle.iris_invariant.specs.Agrees.{marked, Doing, Getting, Putting, Dropping, Settling, Out, Cell, Mark, Touch, Untouched, Touched, WasRight, is_challenge, Gets, StaysRight, Going}
 use Rattle.iris_history.proofs.Steady.{true_false, last_kept, steady_more, steady_less, steady_broken, steady_later}
 use Rattle.iris_history.proofs.NoteStatus.{call_changes, call_takes}
 
@@ -74,11 +74,11 @@ module _ (k : Kept) (n : Name) where
 
   module _ (r : Rules) where
     pub first_stays : (b : ℕ) (x : Stamped) (past : Past) (asked : Option Request) (crowded : Bool) (doing : Doing) → b ≤ length past
-        → First k r n asked crowded doing (oldest b past) → First k r n asked crowded doing (oldest b (x ∷ past))
-    first_stays b x past asked crowded doing le f = subst (First k r n asked crowded doing) (sym (oldest_more b x past le)) f
+        → WasRight k r n asked crowded doing (oldest b past) → WasRight k r n asked crowded doing (oldest b (x ∷ past))
+    first_stays b x past asked crowded doing le f = subst (WasRight k r n asked crowded doing) (sym (oldest_more b x past le)) f
 
     pub now_stays : (x : Stamped) (past : Past) (challenge : Bool) (c : Cell) (touched : Bool) (doing : Doing) → shown_in k (x ∷ past) n ≡ shown_in k past n
-        → Now k n past challenge c touched doing → Now k n (x ∷ past) challenge c touched doing
+        → StaysRight k n past challenge c touched doing → StaysRight k n (x ∷ past) challenge c touched doing
     now_stays x past challenge c touched (Getting expect) e h = record { unmarked = h.unmarked; present = λ t s. h.present t (subst IsSome e s); absent = h.absent }
     now_stays x past challenge c touched (Putting bytes) e h = h
     now_stays x past challenge c touched Dropping e h = h
@@ -103,8 +103,8 @@ module _ (k : Kept) (n : Name) where
     pub got_live : (opened : ℕ) (past : Past) (c : Cell) (o : Out) (expect : _) → o.doing ≡ Getting expect → o.touched ≡ false
         → Going k r opened n past c o → IsSome (shown_in k past n)
     got_live opened past c o expect d f g = by g.touch where
-      first : First k r n o.request o.crowded (Getting expect) (oldest (opened + o.since) past)
-      first = subst (λ z. First k r n o.request o.crowded z (oldest (opened + o.since) past)) d g.first
+      first : WasRight k r n o.request o.crowded (Getting expect) (oldest (opened + o.since) past)
+      first = subst (λ z. WasRight k r n o.request o.crowded z (oldest (opened + o.since) past)) d g.first
 
       by : Touch k n (opened + o.since) past o.touched → IsSome (shown_in k past n)
       by (Untouched e s) = subst IsSome (then_now (opened + o.since) past g.began s) first.0.live
@@ -123,12 +123,12 @@ module _ (k : Kept) (n : Name) where
       now = by o.doing refl;
     } where
       gets : (expect : _) → o.doing ≡ Getting expect → Gets k n past (is_challenge o.request n) c o.touched
-      gets expect d = subst (Now k n past (is_challenge o.request n) c o.touched) d g.now
+      gets expect d = subst (StaysRight k n past (is_challenge o.request n) c o.touched) d g.now
 
       absent : (expect : _) → o.doing ≡ Getting expect → is_challenge o.request n ≡ false → ⊥
       absent expect d ch = let old = (gets expect d).absent ch in true_false c.resident (was (got_live opened past c o expect d old.1 g)) old.0
 
-      by : (d : Doing) → o.doing ≡ d → Now k n (x ∷ past) (is_challenge o.request n) c' true d
+      by : (d : Doing) → o.doing ≡ d → StaysRight k n (x ∷ past) (is_challenge o.request n) c' true d
       by (Getting expect) d = record { unmarked = λ e. absurd (cc); present = λ e s. is s; absent = λ ch. absurd (absent expect d ch) }
       by (Putting bytes) d = (m, λ e. absurd (cc))
       by Dropping d = m

@@ -20,7 +20,7 @@ use Rattle.iris_history.proofs.Names.{same_list}
 use Rattle.iris_history.proofs.Records.{clean_put, got_passing}
 use Rattle.iris_history.specs.StatusLaws.{got}
 use Rattle.iris_invariant.specs.Agrees as a
-use Rattle.iris_invariant.specs.Agrees.{Getting, Out, Cell, Touch, IsTrueOf, First, is_challenge, Going}
+use Rattle.iris_invariant.specs.Agrees.{Getting, Out, Cell, Touch, IsTrueOf, WasRight, is_challenge, Going}
 use Rattle.iris_invariant.specs.Readings.{PassesAs, PassesCheck, Spells, OneBlock}
 use Rattle.iris_history.proofs.Steady.{true_false, last_kept}
 use Rattle.iris_invariant.proofs.Names.{then_now}
@@ -43,8 +43,8 @@ module _ (k : Kept) (r : Rules) (Fits : Name → List ℕ → Type 0) (n : Name)
   abbrev x : Stamped
   x = got opened o.who o.since n answer
 
-  first : First k r n o.request o.crowded (Getting expect) (oldest b past)
-  first = subst (λ z. First k r n o.request o.crowded z (oldest b past)) d g.first
+  first : WasRight k r n o.request o.crowded (Getting expect) (oldest b past)
+  first = subst (λ z. WasRight k r n o.request o.crowded z (oldest b past)) d g.first
 
   at : begun past x ≡ oldest b past
   at = begun_then k r n opened past c o g x.note refl

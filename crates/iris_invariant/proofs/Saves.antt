@@ -5,7 +5,7 @@ use Rattle.iris_name.specs.History.{Past}
 use Rattle.iris_history.specs.Kept.{Kept}
 use Rattle.iris_history.specs.Legal.{Rules}
 use Rattle.iris_invariant.specs.Agrees as a
-use Rattle.iris_invariant.specs.Agrees.{marked, MarkListed, Out, Cell, View, Mark, Going, Settled, Agrees}
+use Rattle.iris_invariant.specs.Agrees.{marked, MarkListed, Out, Cell, View, Mark, Going, SettledUnlessMarked, Agrees}
 use Rattle.iris_invariant.specs.Saves as s
 use Rattle.iris_invariant.specs.Saves.{Saved, Started}
 use Rattle.iris_history.proofs.Steady.{true_false}

@@ -11,16 +11,18 @@ use Rattle.iris_name.specs.declared.request.Reply.TheVariants.{Refused}
 use Rattle.iris_name.specs.declared.request.Request.{Request}
 use Rattle.iris_name.specs.History.{Past, Stamped, begun, oldest}
 use Rattle.iris_history.specs.Answers.{IsFailure}
-use Rattle.iris_history.specs.Kept.{Kept, shown_in}
+use Rattle.iris_history.specs.Kept.{Kept}
 use Rattle.iris_history.specs.Legal.{Rules, IsLawful, IsLegal, IsBad, IsLicensed}
 use Rattle.iris_history.specs.Values.{IsRequest}
 use Rattle.iris_history.specs.StatusLaws.{called, got, putted, dropped_note}
-use Rattle.iris_invariant.specs.Agrees.{Getting, Putting, Dropping, Out, View, First, Going, IsAsked, Agrees, Stands}
+use Rattle.iris_invariant.specs.Agrees.{Getting, Putting, Dropping, Out, View, WasRight, Going, IsAsked, Agrees, Stands}
+use Rattle.iris_invariant.specs.Answering.{IsRightAnswer}
 use Rattle.iris_invariant.specs.Events as e
-use Rattle.iris_invariant.specs.Events.{RequestGivenUp, Brought, Answered}
+use Rattle.iris_invariant.specs.Events.{Withdrawn, Brought, Answered}
 use Rattle.iris_invariant.specs.Readings.{PassesCheck, Spells, OneBlock}
 use Rattle.iris_invariant.proofs.Ends.{failed_licenses, other_licenses, put_licenses, drop_licenses}
-use Rattle.iris_invariant.proofs.Events.{got_given_up, got_kept, put_keeps, drop_keeps, call_keeps}
+use Rattle.iris_invariant.proofs.Calls.{call_keeps}
+use Rattle.iris_invariant.proofs.Events.{got_given_up, got_kept, put_keeps, drop_keeps}
 use Rattle.iris_invariant.proofs.Facts.{refusal_lawful}
 use Rattle.iris_invariant.proofs.Readings.{refused_other, passed_right, stood, stands}
 
@@ -47,17 +49,17 @@ module _ (k : Kept) (r : Rules) (Fits : Name → List ℕ → Type 0) (opened : 
     x = got opened o.who o.since n answer
 
     asked_for : (h : Agrees k r opened past v) → o.request ≡ Some q
-    asked_for h = request_is o (v.asked o.who) q (h.asks n o f) a (some_and _ o.request (subst (λ z. First k r n o.request o.crowded z (oldest (opened + o.since) past)) d (h.outs n o f).first).2)
+    asked_for h = request_is o (v.asked o.who) q (h.asks n o f) a (some_and _ o.request (subst (λ z. WasRight k r n o.request o.crowded z (oldest (opened + o.since) past)) d (h.outs n o f).first).2)
 
     -- `supply` of a get that failed
-    pub supply_failed : IsFailure answer → RequestGivenUp n v v1 → let c = called opened o.who q (Refused (StoreFailed n)) in Answered k (x ∷ past) c o.who v1 v2
+    pub supply_failed : IsFailure answer → Withdrawn n v v1 → let c = called opened o.who q (Refused (StoreFailed n)) in Answered k (x ∷ past) c o.who v1 v2
         → Stands k r opened past v → Stands k r opened (c ∷ x ∷ past) v2
     supply_failed fl g b (inl bad) = inl (inr (inr bad))
     supply_failed fl g b (inr h) = let s = got_given_up k r opened past v v1 h.1 n o f expect d answer g in
         refused k r opened o.who q (StoreFailed n) (x ∷ past) v1 v2 is (s.0, h.0) s.1 (at_some _ o.request q (asked_for h.1) (failed_licenses k r n opened past (v.cell n) o (h.1.outs n o f) expect d answer fl)) b
 
     -- `supply` of an answer whose check failed
-    pub supply_bad : Spells k r Fits → (IsFailure answer → ⊥) → ((bytes : List ℕ) → answer ≡ Given bytes → PassesCheck k Fits n expect bytes → ⊥) → RequestGivenUp n v v1
+    pub supply_bad : Spells k r Fits → (IsFailure answer → ⊥) → ((bytes : List ℕ) → answer ≡ Given bytes → PassesCheck k Fits n expect bytes → ⊥) → Withdrawn n v v1
         → let c = called opened o.who q (Refused (BadAnswer n)) in Answered k (x ∷ past) c o.who v1 v2 → Stands k r opened past v → Stands k r opened (c ∷ x ∷ past) v2
     supply_bad sp nf np g b (inl bad) = inl (inr (inr bad))
     supply_bad sp nf np g b (inr h) = let s = got_given_up k r opened past v v1 h.1 n o f expect d answer g in
@@ -69,7 +71,7 @@ module _ (k : Kept) (r : Rules) (Fits : Name → List ℕ → Type 0) (opened : 
       let c = called opened o.who q (Refused (StoreFailed n)) in Answered k (y ∷ past) c o.who v1 v2 → Stands k r opened past v → Stands k r opened (c ∷ y ∷ past) v2
   stored_refused bytes d cr g b (inl bad) = inl (inr (inr bad))
   stored_refused bytes d cr g b (inr h) = let s = put_keeps k r opened past v v1 h.1 n o f bytes d false g in
-      let wait = (subst (λ z. First k r n o.request o.crowded z (oldest (opened + o.since) past)) d (h.1.outs n o f).first).2 cr in
+      let wait = (subst (λ z. WasRight k r n o.request o.crowded z (oldest (opened + o.since) past)) d (h.1.outs n o f).first).2 cr in
       let ask = request_is o (v.asked o.who) q (h.1.asks n o f) a (some_and _ o.request wait) in
       refused k r opened o.who q (StoreFailed n) (putted opened o.who o.since n bytes false ∷ past) v1 v2 is (s.0, h.0) s.1
       (at_some _ o.request q ask (put_licenses k r n opened past (v.cell n) o (h.1.outs n o f) bytes d false refl cr)) b
@@ -79,27 +81,21 @@ module _ (k : Kept) (r : Rules) (Fits : Name → List ℕ → Type 0) (opened : 
       let c = called opened o.who q (Refused (StoreFailed n)) in Answered k (y ∷ past) c o.who v1 v2 → Stands k r opened past v → Stands k r opened (c ∷ y ∷ past) v2
   gone_refused d cr g b (inl bad) = inl (inr (inr bad))
   gone_refused d cr g b (inr h) = let s = drop_keeps k r opened past v v1 h.1 n o f d false g in
-      let wait = (subst (λ z. First k r n o.request o.crowded z (oldest (opened + o.since) past)) d (h.1.outs n o f).first).1 cr in
+      let wait = (subst (λ z. WasRight k r n o.request o.crowded z (oldest (opened + o.since) past)) d (h.1.outs n o f).first).1 cr in
       let ask = request_is o (v.asked o.who) q (h.1.asks n o f) a (some_and _ o.request wait) in
       refused k r opened o.who q (StoreFailed n) (dropped_note opened o.who o.since n false ∷ past) v1 v2 is (s.0, h.0) s.1
       (at_some _ o.request q ask (drop_licenses k r n opened past (v.cell n) o (h.1.outs n o f) d false refl cr)) b
 
--- `supply` of an answer that passes: the history is bad, or it goes on, and the answer is the record of what the name stood for
--- when the get began; untouched, of what it stands for now
-pub record Right (k : Kept) (n : Name) (past : Past) (o : Out) (bytes : List ℕ) : Type 0 where
-  pub u : k.Unfolded
-  pub is : bytes ≡ k.spelled n u
-  pub now : o.touched ≡ false → shown_in k past n ≡ Some u
-
+-- `supply` of an answer that passes: the history is bad, or it goes on, and the answer is right
 pub supply_kept : (k : Kept) (r : Rules) (Fits : Name → List ℕ → Type 0) (opened : ℕ) (past : Past) (v v' : View) (n : Name) (o : Out) (expect : Expect) (bytes : List ℕ)
     → (v.cell n).out ≡ Some o → o.doing ≡ Getting expect → Spells k r Fits → OneBlock k → PassesCheck k Fits n expect bytes
-    → (Right k n past o bytes → Brought n o v v') → let x = got opened o.who o.since n (Given bytes) in Stands k r opened past v
-    → IsBad k r (x ∷ past) ⊎ (IsLegal k r (x ∷ past) × Agrees k r opened (x ∷ past) v' × Right k n past o bytes)
+    → (IsRightAnswer k n past o bytes → Brought n o v v') → let x = got opened o.who o.since n (Given bytes) in Stands k r opened past v
+    → IsBad k r (x ∷ past) ⊎ (IsLegal k r (x ∷ past) × Agrees k r opened (x ∷ past) v' × IsRightAnswer k n past o bytes)
 supply_kept k r Fits opened past v v' n o expect bytes f d sp one pass b (inl bad) = inl (inr bad)
 supply_kept k r Fits opened past v v' n o expect bytes f d sp one pass b (inr h) =
     elim (passed_right k r Fits n opened past (v.cell n) o expect (Given bytes) g d sp one (lawful, h.0) bytes refl pass) [
       | inl bad ↦ inl bad
-      | inr same ↦ (let right : Right k n past o bytes = record { u = (stood k r Fits n opened past (v.cell n) o expect (Given bytes) g d).0; is = same; now = stands k r Fits n opened past (v.cell n) o expect (Given bytes) g d } in
+      | inr same ↦ (let right : IsRightAnswer k n past o bytes = record { u = (stood k r Fits n opened past (v.cell n) o expect (Given bytes) g d).0; is = same; now = stands k r Fits n opened past (v.cell n) o expect (Given bytes) g d } in
           let s = got_kept k r opened past v v' h.1 n o f expect d (Given bytes) (b right) in inr ((s.0, h.0), s.1, right))
     ] where
       g : Going k r opened n past (v.cell n) o

@@ -33,8 +33,8 @@ pub record Began (n : Name) (o : Out) (v v' : View) : Type 0 where
   pub doomed : (v'.cell n).doomed ≡ (v.cell n).doomed
   pub settled : (v'.cell n).settled ≡ (v.cell n).settled
 
--- something ends without a note, or by a get that is given up: nothing is out, and all else of the name is as before
-pub record RequestGivenUp (n : Name) (v v' : View) : Type 0 where
+-- something is given up, or a get ends that brings nothing: nothing is out, and all else of the name is as before
+pub record Withdrawn (n : Name) (v v' : View) : Type 0 where
   pub rest : Elsewhere n v v'
   pub pins : SamePins n v v'
   pub out : (v'.cell n).out ≡ None
@@ -44,7 +44,7 @@ pub record RequestGivenUp (n : Name) (v v' : View) : Type 0 where
   pub settled : (v'.cell n).settled ≡ (v.cell n).settled
 
 -- a settling ends
-pub record SettledNow (n : Name) (v v' : View) : Type 0 where
+pub record SettlingEnded (n : Name) (v v' : View) : Type 0 where
   pub rest : Elsewhere n v v'
   pub pins : SamePins n v v'
   pub out : (v'.cell n).out ≡ None
@@ -89,24 +89,25 @@ pub record Discarded (n : Name) (o : Out) (ok : Bool) (v v' : View) : Type 0 whe
   pub doomed : (v'.cell n).doomed ≡ (if ok && not o.touched then false else (v.cell n).doomed)
   pub settled : (v'.cell n).settled ≡ (v.cell n).settled
 
--- how a name is kept that a call changed: resident and dirty where it is live, and else listed as doomed
-pub record IsDirtied (c : Cell) : Type 0 where
+-- resident and dirty, and not listed as doomed: so a changed name is kept that is live
+pub record IsKeptDirty (c : Cell) : Type 0 where
   pub resident : c.resident ≡ true
   pub dirty : c.dirty ≡ true
   pub doomed : c.doomed ≡ false
 
-pub record IsRequestGivenUp (c : Cell) : Type 0 where
+-- absent, and listed as doomed: so a name is kept that went
+pub record IsKeptDoomed (c : Cell) : Type 0 where
   pub resident : c.resident ≡ false
   pub dirty : c.dirty ≡ false
   pub doomed : c.doomed ≡ true
 
 -- What a call does to one name: it leaves what the name stands for, and all that is kept of it; or it changes that, and then
--- the name was resident where it was live, and is dirtied where it is live, given up where it is gone, and touched where
+-- the name was resident where it was live, and is kept dirty where it is live, doomed where it is gone, and touched where
 -- something is out.
 pub data Moved (k : Kept) (past : Past) (x : Stamped) (n : Name) (c c' : Cell) : Type 0 where
   Still : shown_in k (x ∷ past) n ≡ shown_in k past n → c' ≡ c → Moved k past x n c c'
   Changed : shown_in k (x ∷ past) n ≢ shown_in k past n → (IsSome (shown_in k past n) → c.resident ≡ true)
-      → (IsSome (shown_in k (x ∷ past) n) → IsDirtied c') → (IsNone (shown_in k (x ∷ past) n) → IsRequestGivenUp c') → c'.out ≡ option_map touched c.out → Moved k past x n c c'
+      → (IsSome (shown_in k (x ∷ past) n) → IsKeptDirty c') → (IsNone (shown_in k (x ∷ past) n) → IsKeptDoomed c') → c'.out ≡ option_map touched c.out → Moved k past x n c c'
 
 -- a call is answered, and entered: nothing was out for its caller, whose request and kept names go
 pub record Answered (k : Kept) (past : Past) (x : Stamped) (who : ℕ) (v v' : View) : Type 0 where

@@ -8,13 +8,13 @@ use Rattle.iris_name.specs.Names.{same_name}
 use Rattle.iris_history.specs.Kept.{Kept, shown_in}
 use Rattle.iris_invariant.specs.Agrees.{Getting, Out, View}
 use Rattle.iris_invariant.specs.Events.{touched, Elsewhere, Began, Moved, Still, Changed, Answered, Evicted}
-use Rattle.iris_invariant.specs.Homes.{Homes, NoChildComes}
+use Rattle.iris_invariant.specs.ParentsResident.{ParentsResident, NoChildIsFetched}
 use Rattle.iris_invariant.proofs.Events.{which, none_some}
 
-module _ (k : Kept) (Links : k.Unfolded → Name → Type 0) (past : Past) (v v' : View) (h : Homes k Links past v) where
+module _ (k : Kept) (Links : k.Unfolded → Name → Type 0) (past : Past) (v v' : View) (h : ParentsResident k Links past v) where
   -- whatever ends or gives up at one name, with a note that leaves the table or without, where a resident name stays resident
   pub ends_homes : (n : Name) (past' : Past) → Elsewhere n v v' → ((q : Name) → shown_in k past' q ≡ shown_in k past q) → (v'.cell n).out ≡ None
-      → ((v.cell n).resident ≡ true → (v'.cell n).resident ≡ true) → Homes k Links past' v'
+      → ((v.cell n).resident ≡ true → (v'.cell n).resident ≡ true) → ParentsResident k Links past' v'
   ends_homes n past' el same none stays m p o expect u f d s l = home (which n p) (was (which n m)) where
     was : (n ≡ m) ⊎ (same_name n m ≡ false) → (v.cell p).resident ≡ true
     was (inl e) = absurd (none_some (v'.cell m).out o (subst (λ z. (v'.cell z).out ≡ None) e none) f)
@@ -26,7 +26,7 @@ module _ (k : Kept) (Links : k.Unfolded → Name → Type 0) (past : Past) (v v'
 
   -- what begins: a get whose parent is resident, or something else
   pub begins_homes : (n : Name) (o : Out) → Began n o v v'
-      → ((expect : Expect) → o.doing ≡ Getting expect → (p : Name) (u : k.Unfolded) → shown_in k past p ≡ Some u → Links u n → (v.cell p).resident ≡ true) → Homes k Links past v'
+      → ((expect : Expect) → o.doing ≡ Getting expect → (p : Name) (u : k.Unfolded) → shown_in k past p ≡ Some u → Links u n → (v.cell p).resident ≡ true) → ParentsResident k Links past v'
   begins_homes n o b new m p o' expect u f d s l = home (which n p) (was (which n m)) where
     some_same : (a b : Out) → Some a ≡ Some b → a ≡ b
     some_same a b e = cc
@@ -40,7 +40,7 @@ module _ (k : Kept) (Links : k.Unfolded → Name → Type 0) (past : Past) (v v'
     home (inl e) r = subst (λ z. (v'.cell z).resident ≡ true) e (b.resident ∙ subst (λ z. (v.cell z).resident ≡ true) (sym e) r)
     home (inr e) r = ap (λ c. c.resident) (b.rest.cell p e) ∙ r
 
-  pub evict_homes : (n : Name) → Evicted n v v' → NoChildComes k Links past v n → Homes k Links past v'
+  pub evict_homes : (n : Name) → Evicted n v v' → NoChildIsFetched k Links past v n → ParentsResident k Links past v'
   evict_homes n b free m p o expect u f d s l = home (which n p) where
     was : (v.cell m).out ≡ Some o
     was = by (which n m) where
@@ -53,7 +53,7 @@ module _ (k : Kept) (Links : k.Unfolded → Name → Type 0) (past : Past) (v v'
     home (inr e) = ap (λ c. c.resident) (b.rest.cell p e) ∙ h m p o expect u was d s l
 
   -- a call: a name that leads to it now either is changed, so resident, or led to it before
-  pub call_homes : (who : ℕ) (x : Stamped) → Answered k past x who v v' → Homes k Links (x ∷ past) v'
+  pub call_homes : (who : ℕ) (x : Stamped) → Answered k past x who v v' → ParentsResident k Links (x ∷ past) v'
   call_homes who x b m p o expect u f d s l = home (b.moved p) where
     come : (c : Option Out) → option_map touched c ≡ Some o → (q : Out) × (c ≡ Some q) × (q.doing ≡ Getting expect)
     come None e = absurd (cc)

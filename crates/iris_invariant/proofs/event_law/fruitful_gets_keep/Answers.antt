@@ -1,0 +1,5 @@
+use Rattle.iris_invariant.proofs.EventLaws.{fruitful_gets_keep}
+use Rattle.iris_invariant.proofs.event_law.fruitful_gets_keep.Goals as goal
+
+pub returns : goal.returns
+returns g c = fruitful_gets_keep g.P.Portal.kept g.P.Portal.rules
