@@ -84,7 +84,11 @@ fn some_request(alloc: Global, dice: &mut Dice) -> Result<Request, Fail> {
 // A write, often of whole blocks.
 fn some_write(alloc: Global, dice: &mut Dice, path: Text) -> Result<Request, Fail> {
     let offset = some_offset(dice);
-    let offset = if dice.roll(3) == 0 { offset / 4096 * 4096 } else { offset };
+    let offset = if dice.roll(3) == 0 {
+        offset / 4096 * 4096
+    } else {
+        offset
+    };
     let count = some_count(dice);
     Ok(Request::Write {
         path,
@@ -149,7 +153,10 @@ fn fetch_block(
 ) -> Result<(), Fail> {
     let name = Name::Block { file, place };
     let record = record_of(beside.records.as_slice(), &name).ok_or("a block that isn't live")?;
-    holds(passes(&beside.keys, file, place, version, record), "another version")?;
+    holds(
+        passes(&beside.keys, file, place, version, record),
+        "another version",
+    )?;
     let block = block_in(record).ok_or("a record of a block")?;
     put_block(alloc, &mut beside.blocks, file, place, version, block)?;
     beside.fetched = beside.fetched.saturating_add(1);
@@ -218,7 +225,10 @@ fn clean_blocks(blocks: &mut Blocks) -> Result<(), Fail> {
     for left in 0..dirty {
         let (file, place) = blocks.dirty_block().ok_or("a dirty block")?;
         clean_block(blocks, file, place)?;
-        holds(blocks.dirty() == dirty - 1 - left, "another count of dirty blocks")?;
+        holds(
+            blocks.dirty() == dirty - 1 - left,
+            "another count of dirty blocks",
+        )?;
     }
     holds(blocks.dirty_block().is_none(), "a block is left dirty")
 }
@@ -240,7 +250,10 @@ fn let_blocks_go(blocks: &mut Blocks, dice: &mut Dice) -> Result<u32, Fail> {
     while gone < 1000 && dice.roll(16) > 0 {
         match blocks.can_go() {
             Some((file, place)) if blocks.held(file, place).is_some() => {
-                holds(blocks.evict(file, place).is_ok(), "a block stays that can go")?;
+                holds(
+                    blocks.evict(file, place).is_ok(),
+                    "a block stays that can go",
+                )?;
                 gone += 1;
             }
             _ => return Ok(gone),
@@ -253,7 +266,10 @@ fn let_blocks_go(blocks: &mut Blocks, dice: &mut Dice) -> Result<u32, Fail> {
 fn compare(alloc: Global, beside: &mut Beside, plan: Plan) -> Result<(), Fail> {
     let records = beside.table.records_of(alloc, &beside.keys)?;
     let before = beside.records.as_slice();
-    holds(are_changes(&beside.keys, &plan.pages, before, records.as_slice()), "other pages")?;
+    holds(
+        are_changes(&beside.keys, &plan.pages, before, records.as_slice()),
+        "other pages",
+    )?;
     beside.records = records;
     land(beside, plan)?;
     compare_resident(alloc, beside)
@@ -302,6 +318,9 @@ fn run(alloc: Global, rounds: u32) -> Result<(u32, u32, u32), Fail> {
 #[test]
 fn files_as_the_table_answers(rt: HostRuntime) -> Result<(), Fail> {
     let (fetched, gone, done) = run(rt.alloc(), 300)?;
-    assert!(rt; fetched > 300 && gone > 300 && done > 100, "{fetched} {gone} {done}");
+    assert!(rt;
+        fetched > 300 && gone > 300 && done > 100,
+        "{fetched} {gone} {done}"
+    );
     Ok(())
 }

@@ -69,7 +69,14 @@ fn is_change(keys: &Keys, change: &Change, old: Option<&[u8]>, new: Option<&[u8]
     };
     let is = match change.new {
         Some((version, page)) => {
-            is_record_of(keys, new, change.file, change.place, version, page.as_slice())
+            is_record_of(
+                keys,
+                new,
+                change.file,
+                change.place,
+                version,
+                page.as_slice(),
+            )
         }
         None => new.is_none(),
     };
@@ -89,7 +96,12 @@ pub(crate) fn are_changes(
             file: change.file,
             place: change.place,
         };
-        if !is_change(keys, &change, record_of(before, &name), record_of(after, &name)) {
+        if !is_change(
+            keys,
+            &change,
+            record_of(before, &name),
+            record_of(after, &name),
+        ) {
             return false;
         }
     }
@@ -98,15 +110,18 @@ pub(crate) fn are_changes(
 }
 
 // Whether each resident block has its record among these.
-pub(crate) fn are_blocks_recorded(
-    keys: &Keys,
-    blocks: &Blocks,
-    records: &[(Name, Bytes)],
-) -> bool {
+pub(crate) fn are_blocks_recorded(keys: &Keys, blocks: &Blocks, records: &[(Name, Bytes)]) -> bool {
     for i in 0..blocks.count() {
         let (file, place, held) = blocks.at(i);
         let record = record_of(records, &Name::Block { file, place });
-        if !is_record_of(keys, record, file, place, held.version, held.page.as_slice()) {
+        if !is_record_of(
+            keys,
+            record,
+            file,
+            place,
+            held.version,
+            held.page.as_slice(),
+        ) {
             return false;
         }
     }

@@ -13,6 +13,7 @@ use std::test::Fail;
 
 // How many blocks the files have, all written, each in a version of its own.
 const FEW: u32 = 16;
+
 const MANY: u32 = 60_000;
 
 // Gives a place a version of its own, and the file a length up to it.
@@ -24,7 +25,15 @@ fn written_once(alloc: Global, filled: &mut Filled, place: u32) -> Result<(), Fa
         return Err("the file's entry is missing".into());
     }
     let version = u64::from(place) + 1;
-    plan_set(alloc, &mut draft, &filled.cache, FILE, place, place + 1, version)?;
+    plan_set(
+        alloc,
+        &mut draft,
+        &filled.cache,
+        FILE,
+        place,
+        place + 1,
+        version,
+    )?;
     land(filled, draft, PageDraft::new(alloc))
 }
 
@@ -79,7 +88,9 @@ fn take_in_one(alloc: Global, filled: &mut Filled, place: u32) -> Result<(), Fai
     if filled.blocks.held(FILE, place).is_some() {
         return Err("it is resident".into());
     }
-    filled.blocks.insert(FILE, place, u64::from(place) + 1, page, 0);
+    filled
+        .blocks
+        .insert(FILE, place, u64::from(place) + 1, page, 0);
     Ok(())
 }
 

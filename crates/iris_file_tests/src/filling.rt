@@ -109,12 +109,7 @@ pub(crate) fn resize(alloc: Global, filled: &mut Filled, size: u64) -> Result<u3
 
 // Bytes of the file.
 #[inline(never)]
-pub(crate) fn read(
-    alloc: Global,
-    filled: &Filled,
-    offset: u64,
-    count: u64,
-) -> Result<Bytes, Fail> {
+pub(crate) fn read(alloc: Global, filled: &Filled, offset: u64, count: u64) -> Result<Bytes, Fail> {
     let draft = Draft::new(alloc);
     if !is_file(&draft, &filled.cache, FILE) {
         return Err("the file's entry is missing".into());

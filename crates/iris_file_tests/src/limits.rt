@@ -49,7 +49,10 @@ fn cut_to_one(alloc: Global) -> Result<(Filled, u32), Fail> {
 #[test]
 fn cuts_sixty_four_blocks(rt: HostRuntime) -> Result<(), Fail> {
     let (filled, count) = cut_to_one(rt.alloc())?;
-    assert_eq!(rt; (count, filled.blocks.count(), filled.blocks.dirty()), (65, 1, 1));
+    assert_eq!(rt;
+        (count, filled.blocks.count(), filled.blocks.dirty()),
+        (65, 1, 1)
+    );
     assert!(rt; reads(rt.alloc(), &filled, 98, 100, &[187, 187])?);
     Ok(())
 }
@@ -59,7 +62,12 @@ fn cuts_sixty_four_blocks(rt: HostRuntime) -> Result<(), Fail> {
 fn grows_without_a_block(rt: HostRuntime) -> Result<(), Fail> {
     let mut filled = empty_file(rt.alloc())?;
     assert_eq!(rt; resize(rt.alloc(), &mut filled, 245_760_000)?, 0);
-    assert!(rt; are_all(read(rt.alloc(), &filled, 200_000_001, MOST as u64)?.as_slice(), 0));
+    assert!(rt;
+        are_all(
+            read(rt.alloc(), &filled, 200_000_001, MOST as u64)?.as_slice(),
+            0
+        )
+    );
     assert_eq!(rt; (filled.cache.count(), filled.blocks.count()), (1, 0));
     Ok(())
 }

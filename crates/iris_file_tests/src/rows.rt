@@ -8,12 +8,7 @@ use std::alloc::Global;
 use std::test::Fail;
 
 // What is read of a file of three bytes.
-const READS: [(u64, u64, &[u8]); 4] = [
-    (3, 5, &[]),
-    (9, 1, &[]),
-    (0, 0, &[]),
-    (2, 5, &[3]),
-];
+const READS: [(u64, u64, &[u8]); 4] = [(3, 5, &[]), (9, 1, &[]), (0, 0, &[]), (2, 5, &[3])];
 
 fn three_bytes(alloc: Global) -> Result<Filled, Fail> {
     let mut filled = empty_file(alloc)?;

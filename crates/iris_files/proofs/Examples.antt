@@ -3,7 +3,8 @@ use Rattle.std.proofs.Common.{◌≡◌, ◌==◌, if◌then◌else◌, ℕ, Lis
 use Rattle.iris_name.specs.declared.name.FileId.{FileId}
 use Rattle.iris_name.specs.declared.name.Name.TheVariants.{Entry, Block}
 use Rattle.iris_node.specs.Unfolded.{Unfolded, Absent, Folder, Leaf, Even}
-use Rattle.iris_rows.specs.Rows.{File, zeros}
+use Rattle.iris_shape.specs.FoldLaws.{with_range_set}
+use Rattle.iris_rows.specs.Rows.{File}
 use Rattle.iris_blocks.specs.Changes.{from_to}
 use Rattle.iris_files.specs.Pages.{page_in, or_zeros, is_block_in, read_end}
 use Rattle.iris_files.specs.Cuts.{renumbered, page_cut, versions_cut}
@@ -32,7 +33,9 @@ cuts = (refl, refl, refl)
 numbers : (renumbered 1 9 gap.version 1 ≡ 9) × (renumbered 0 9 gap.version 0 ≡ 0) × (renumbered 0 9 gap.version 1 ≡ 3)
 numbers = (refl, refl, refl)
 
+-- a cut leaves the place in which it ends to be numbered, and makes those past it holes
 versions : (versions_cut 4097 gap 1 ≡ 3) × (versions_cut 4096 gap 1 ≡ 0) × (versions_cut 8000 gap 1 ≡ 3)
+unfolding with_range_set
 versions = (refl, refl, refl)
 
 -- a read ends with its range or with the file
