@@ -18,6 +18,7 @@ pub(crate) struct Plan {
 }
 
 // Where it is planned: the cache, the blocks, and the id that a new file gets.
+#[derive(Drop)]
 pub(crate) struct Ground<'a> {
     pub keys: &'a Keys,
     pub cache: &'a Cache,
