@@ -108,7 +108,7 @@ impl Desks {
         desk.ask(request);
     }
 
-    /// Hands a caller's request out. No name is kept at this desk then. It costs the number of names that were kept.
+    /// Hands a caller's request out. No name is kept at this desk then. It costs the most names that were ever kept at once here.
     pub fn enter(&mut self, who: u32) -> Option<Request>
         requires { who ≤ 16 }
         ensures answer { result ≡ asked_by self.old who }
