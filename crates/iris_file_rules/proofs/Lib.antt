@@ -1,6 +1,7 @@
 pub mod OneBlock
 pub mod FileRecords
 pub mod Fresh
+pub mod Drafts
 mod ExampleShown
 mod ExamplesOfTrails
 mod ExamplesOfRanges

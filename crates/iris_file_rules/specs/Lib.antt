@@ -2,3 +2,4 @@ pub mod FileTable
 pub mod Reach
 pub mod Rules
 pub mod Laws
+pub mod DraftLaws

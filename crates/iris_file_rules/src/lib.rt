@@ -3,6 +3,7 @@
 //! Each law is the contract of a function that does nothing.
 #![tactic(auto)]
 
+ghost use Rattle.iris_file_rules.specs.DraftLaws.{DraftsMove};
 ghost use Rattle.iris_file_rules.specs.Laws.{UpkeepReachesNothing, VersionsStandForOneBlock, TrueRecordsPass, TrueHashesAreExpected, FreshIsSaved};
 
 /// A sync and a root hash reach no name.
@@ -28,4 +29,9 @@ pub fn true_hashes_are_expected()
 /// The state with two empty directories saves the empty history.
 pub fn fresh_is_saved()
     ensures { FreshIsSaved }
+{}
+
+/// A draft over cache and resident blocks, once it is made, moves every name as an entered call does.
+pub fn drafts_move()
+    ensures { DraftsMove }
 {}

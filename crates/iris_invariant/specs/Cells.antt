@@ -2,6 +2,8 @@
 use Rattle.std.specs.Prelude.{◌≡◌, ◌==◌, ◌^◌, ℕ, Bool, true, false, not, ◌||◌, Option, Some, None, is_some, bit_and}
 use Rattle.iris_blocks.specs.declared.held.PageHeld.{PageHeld}
 use Rattle.iris_cache.specs.declared.held.Held.{Held}
+use Rattle.iris_name.specs.declared.name.Name.{Name}
+use Rattle.iris_name.specs.declared.name.Name.TheVariants.{Entry, Part, Block}
 use Rattle.iris_invariant.specs.Agrees.{Out, Cell}
 
 abbrev pub dirty_in : Option Held → Bool
@@ -24,6 +26,12 @@ dirty_page_in (Some h) = h.dirty
 abbrev pub cell_of_page : Option PageHeld → Bool → Option Out → Cell
 cell_of_page h doomed out = record { resident = is_some h; dirty = dirty_page_in h; doomed = doomed; settled = is_some h; out = out }
 
+-- of any name: a node's cell from the cache, a block's from the resident blocks
+abbrev pub cell_at : Name → Option Held → Option PageHeld → Bool → Option Out → Cell
+cell_at (Entry i) h p doomed out = cell_of h doomed out
+cell_at (Part f l i) h p doomed out = cell_of h doomed out
+cell_at (Block f q) h p doomed out = cell_of_page p doomed out
+
 -- what the core does to the doomed names after a draft is made: what went is doomed, what came isn't any more
 abbrev pub redoomed : {A : Type 0} → Option A → Option A → Bool → Bool
 redoomed None None doomed = doomed
@@ -43,6 +51,17 @@ page_touched None None = false
 page_touched None (Some h) = true
 page_touched (Some g) None = true
 page_touched (Some g) (Some h) = h.touched
+
+-- the same of any name
+abbrev pub doomed_at : Name → Option Held → Option Held → Option PageHeld → Option PageHeld → Bool → Bool
+doomed_at (Entry i) g h p q doomed = redoomed g h doomed
+doomed_at (Part f l i) g h p q doomed = redoomed g h doomed
+doomed_at (Block f s) g h p q doomed = redoomed p q doomed
+
+abbrev pub is_touched_at : Name → Option Held → Option Held → Option PageHeld → Option PageHeld → Bool
+is_touched_at (Entry i) g h p q = held_touched g h
+is_touched_at (Part f l i) g h p q = held_touched g h
+is_touched_at (Block f s) g h p q = page_touched p q
 
 abbrev pub touched_if : Bool → Out → Out
 touched_if b o = record { who = o.who; since = o.since; request = o.request; doing = o.doing; crowded = o.crowded; touched = b || o.touched }
