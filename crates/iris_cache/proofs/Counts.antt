@@ -1,10 +1,11 @@
 -- Counts over the resident nodes, by what is held of each name.
-use Rattle.std.proofs.Common.{◌≡◌, ◌+◌, ℕ, Bool, true, false, cond, List, [], ◌∷◌, Option, None, refl, ap, sym, ◌∙◌, arith}
+use Rattle.std.proofs.Common.{◌≡◌, ◌+◌, ℕ, Bool, true, false, cond, List, [], ◌∷◌, map, Option, None, refl, ap, sym, ◌∙◌, arith}
 use Rattle.std.specs.Prelude.{unwrap_or}
 use Rattle.std.specs.Option.{option_map}
 use Rattle.std.specs.Map.{lookup, keys_of, values_of, remove_entry}
 use Rattle.std.specs.List.{sum_by, IsDistinct}
 use Rattle.indexmap.specs.Layout.{hash_map}
+use Rattle.std.proofs.lemmas.List.Sums.{sum_by-cons}
 use Rattle.std.proofs.lemmas.Map.{lookup-remove_entry}
 use Rattle.std.proofs.lemmas.Map.Keys.{IsDistinct-head, IsDistinct-tail, IsDistinct-cons}
 use Rattle.std.specs.List.{AllByRecursion}
@@ -76,3 +77,12 @@ module _ {X : Type 0} where
       let f = sum_by-remove_entry w (same_name n) fs in
       let at : weight w (lookup (same_name n) fs) ≡ weight w v = ap (weight w) (is n ∙ ap (λ b. cond b v (lookup (same_name n) es)) (same_name_equiv.refl n)) in
       omega (arith, rest, e, f, at)
+
+  -- a change of all that keeps what each weighs keeps the sum
+  pub sum-all : (w : X → ℕ) (f : X → X) → ((x : X) → w (f x) ≡ w x) → (es : List (Name × X)) → sum_by w (values_of (map (λ e. (e.0, f e.1)) es)) ≡ sum_by w (values_of es)
+  sum-all w f keep [] = refl
+  sum-all w f keep (e ∷ es) =
+      sum_by-cons w (f e.1) (values_of (map (λ e. (e.0, f e.1)) es))
+      ∙ ap (λ k. k + sum_by w (values_of (map (λ e. (e.0, f e.1)) es))) (keep e.1)
+      ∙ ap (λ k. w e.1 + k) (sum-all w f keep es)
+      ∙ sym (sum_by-cons w e.1 (values_of es))

@@ -15,7 +15,8 @@ use Rattle.iris_cache.specs.Laws.{AlikeKeeps, AreAlike, EvictKeeps, InsertKeeps}
 use Rattle.iris_node.specs.Trees.{Shown, IsParent}
 use Rattle.iris_cache.specs.Pictures.{Pictures, IsSettled, IsHashOf, IsLike, Holds}
 use Rattle.iris_cache.proofs.Counts.{weight}
-use Rattle.iris_cache.proofs.Hangs.{one, not-above}
+use Rattle.iris_cache.proofs.HeldChanges.{one}
+use Rattle.iris_cache.proofs.Hangs.{not-above}
 
 -- a node with a resident child counts it
 child-counts : (c : Resident) (n q : Name) (g : Held) → held_node c q ≡ Some g → g.parent ≡ Some n → 1 ≤ children c n

@@ -1,5 +1,17 @@
+-- A cache keeps what it does where nodes are hung (Hangs), come and go (Guests), change (FlaggedNodes) and get places
+-- (EmptyPlaces), over HeldChanges and Counts; its index of links (LinkCounts) says who holds a hash of a name (HashHolders), and
+-- its set of names who can go (IdleNodes). ExamplesOfHolders has small cases. The laws are in EmptyDraft, Lacking, Keeping,
+-- Settling and Applying, over the others.
 pub mod Counts
+pub mod HeldChanges
 pub mod Hangs
+pub mod Guests
+pub mod FlaggedNodes
+pub mod EmptyPlaces
+pub mod LinkCounts
+pub mod IdleNodes
+pub mod HashHolders
+pub mod ExamplesOfHolders
 pub mod Writes
 pub mod Drafts
 pub mod Rising
@@ -12,4 +24,5 @@ pub mod Lacking
 pub mod EmptyDraft
 pub mod Keeping
 pub mod Settling
+pub mod EachHeld
 pub mod SettledChildren

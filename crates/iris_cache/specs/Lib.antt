@@ -1,10 +1,14 @@
 pub mod Held
 pub mod Resident
+pub mod Indexed
+pub mod Idle
+pub mod Kept
 pub mod Drafted
 pub mod Rehash
 pub mod Settled
 pub mod Applied
 pub mod Marked
 pub mod Pictures
+pub mod Holders
 pub mod Needs
 pub mod Laws

@@ -1,5 +1,5 @@
 -- What a contract sees of the cache, and the words on it.
-use Rattle.std.specs.Prelude.{◌≡◌, ◌≤◌, ◌<◌, ◌^◌, ◌+◌, ℕ, Bool, true, false, cond, List, Option, Some, None, length}
+use Rattle.std.specs.Prelude.{◌≡◌, ◌<◌, ◌^◌, ◌+◌, ℕ, Bool, true, cond, List, Option, Some, None, length}
 use Rattle.std.specs.Option.{option_map}
 use Rattle.std.specs.Map.{lookup, keys_of, values_of}
 use Rattle.std.specs.List.{list_any, count_by, IsDistinct}
@@ -54,9 +54,3 @@ pub record IsSoundCache (c : Resident) : Type 0 where
   pub empty : (n : Name) → has_room c n ≡ true → held_node c n ≡ None
   -- names that are resident or have a place are fewer than 2^32
   pub few : length c.nodes + length c.room < 2 ^ 32
-
--- What a cache keeps in its fields: a place for each name with room, and whether a node's parent may be missing.
-pub record IsKept (c : Resident) (astray : Bool) (free : ℕ) : Type 0 where
-  pub sound : IsSoundCache c
-  pub places : length c.room ≤ free
-  pub homed : astray ≡ false → (n : Name) → held_node c n ≡ None → children c n ≡ 0

@@ -18,6 +18,7 @@ use crate::cache::Cache;
 use crate::draft::{Change, Draft};
 use crate::edits::renew;
 use crate::held::Held;
+use crate::index::{exchange_links, ranged};
 use indexmap::IndexMap;
 use iris_name::Name;
 use iris_node::Node;
@@ -139,6 +140,8 @@ impl Cache {
             map_if (same_name name.now q) (with_node node) (held_node self.old q) }
         ensures room { self.new.room ≡ self.old.room }
     {
+        ranged(&node);
+        exchange_links(&mut self.links, &self.nodes, name, &node);
         renew(&mut self.nodes, name, node);
     }
 

@@ -10,7 +10,9 @@ ghost use Rattle.iris_name.specs.declared.name.Name.{Name as SpecName};
 ghost use Rattle.iris_cache.specs.Resident.{held_node, has_room, children, resident_parent, map_if, IsSoundCache};
 
 use crate::held::{Held, Stay};
+use crate::idle::Idle;
 use indexmap::{IndexMap, IndexSet};
+use iris_links::{Links, MOST_LINKS};
 use iris_name::{Name, NoMemory};
 use iris_node::Node;
 use std::alloc::Global;
@@ -23,10 +25,15 @@ pub struct Cache {
     pub(crate) places: IndexSet<Name>,
     // Whether a resident node may have a parent that isn't resident.
     pub(crate) astray: bool,
+    // The links of the resident nodes.
+    pub(crate) links: Links,
+    // The names of the resident nodes that can go.
+    pub(crate) idle: Idle,
 }
 
 impl Model for Cache {
-    ghost use Rattle.iris_cache.specs.Resident.{Resident, IsKept};
+    ghost use Rattle.iris_cache.specs.Kept.{IsKept};
+    ghost use Rattle.iris_cache.specs.Resident.{Resident};
     ghost use Rattle.indexmap.specs.IndexMap.{spare};
 
     ghost Value = { Resident };
@@ -34,7 +41,7 @@ impl Model for Cache {
     ghost view = { λ a. record { nodes = a.nodes.entries; room = a.places.keys } };
 
     ghost invariant = { λ a. IsKept (record { nodes = a.nodes.entries; room = a.places.keys })
-        a.astray (spare a.nodes) };
+        a.astray (spare a.nodes) a.links a.idle };
 }
 
 impl Cache {
@@ -48,6 +55,8 @@ impl Cache {
             nodes: IndexMap::new(alloc),
             places: IndexSet::new(alloc),
             astray: false,
+            links: Links::new(alloc),
+            idle: Idle::new(alloc),
         }
     }
 
@@ -100,6 +109,8 @@ impl Cache {
             return Err(NoMemory);
         }
         self.nodes.reserve(self.places.len() + 1)?;
+        self.links.reserve(MOST_LINKS * (self.places.len() + 1))?;
+        self.idle.reserve(self.nodes.len() + self.places.len() + 1)?;
         self.places.insert(*name)?;
         Ok(())
     }

@@ -1,39 +1,44 @@
 //! Changes of one resident node in the map of them.
 
-ghost use Rattle.std.specs.Prelude.{◌≡◌, ◌≤◌, map, ◌<◌, ◌^◌, IfSome, IsSome, Some, length, false};
+ghost use Rattle.std.specs.Prelude.{◌≡◌, ◌≢◌, ◌≤◌, map, ◌<◌, ◌^◌, IfSome, IsSome, Some, length, false};
 ghost use Rattle.std.specs.Map.{values_of};
 ghost use Rattle.std.specs.List.{count_by};
 ghost use Rattle.iris_name.specs.Names.{same_name};
 ghost use Rattle.iris_name.specs.declared.name.Name.{Name as SpecName};
 ghost use Rattle.indexmap.specs.IndexMap.{IsUnique, spare, get};
 ghost use Rattle.iris_cache.specs.Held.{IsEdit, edited_node, is_child, points, unpinned_node, with_node};
+ghost use Rattle.iris_cache.specs.Idle.{is_free};
 ghost use Rattle.iris_cache.specs.Resident.{map_if};
 
-use crate::held::{Edit, Held};
+use crate::held::{Edit, Edited, Held};
 use indexmap::IndexMap;
 use iris_name::Name;
 use iris_node::Node;
 
 // Makes an edit of a node, where it is resident.
-pub(crate) fn edit(nodes: &mut IndexMap<Name, Held>, name: &Name, edit: Edit)
+pub(crate) fn edit(nodes: &mut IndexMap<Name, Held>, name: &Name, edit: Edit) -> Edited
     requires { IfSome (get same_name nodes.old name.now) (IsEdit edit) }
     ensures nodes { (q : SpecName) → get same_name nodes.new q ≡
         map_if (same_name name.now q) (edited_node edit) (get same_name nodes.old q) }
     ensures count { length nodes.new.entries ≡ length nodes.old.entries }
     ensures spare { spare nodes.new ≡ spare nodes.old }
     ensures unique { IsUnique same_name nodes.old → IsUnique same_name nodes.new }
+    ensures there { result ≢ Edited.Missing → IsSome (get same_name nodes.old name.now) }
+    ensures same { result ≢ Edited.Turned → (q : SpecName) →
+        is_free (get same_name nodes.new q) ≡ is_free (get same_name nodes.old q) }
 {
-    if let Some(held) = nodes.get_mut(name) {
-        held.edit(edit);
+    match nodes.get_mut(name) {
+        Some(held) => held.edit(edit),
+        None => Edited::Missing,
     }
 }
 
-// Makes an edit of a parent, where there is one and it is resident. Tells whether there is one that isn't.
+// Makes an edit of a parent, where there is one and it is resident.
 pub(crate) fn edit_parent(
     nodes: &mut IndexMap<Name, Held>,
     parent: Option<Name>,
     change: Edit,
-) -> bool
+) -> Edited
     requires { (p : SpecName) →
         parent ≡ Some p → IfSome (get same_name nodes.old p) (IsEdit change) }
     ensures nodes { (q : SpecName) → get same_name nodes.new q ≡
@@ -41,15 +46,15 @@ pub(crate) fn edit_parent(
     ensures count { length nodes.new.entries ≡ length nodes.old.entries }
     ensures spare { spare nodes.new ≡ spare nodes.old }
     ensures unique { IsUnique same_name nodes.old → IsUnique same_name nodes.new }
-    ensures missing { result ≡ false →
+    ensures there { result ≢ Edited.Missing →
         (p : SpecName) → parent ≡ Some p → IsSome (get same_name nodes.old p) }
+    ensures same { result ≢ Edited.Turned → (q : SpecName) →
+        is_free (get same_name nodes.new q) ≡ is_free (get same_name nodes.old q) }
 {
-    let Some(parent) = parent else {
-        return false;
-    };
-    let missing = !nodes.contains_key(&parent);
-    edit(nodes, &parent, change);
-    missing
+    match parent {
+        Some(parent) => edit(nodes, &parent, change),
+        None => Edited::Kept,
+    }
 }
 
 // How many nodes have this parent: none, where no node is astray and the parent isn't resident.

@@ -9,6 +9,7 @@ ghost use Rattle.iris_cache.specs.Resident.{held_node, Updates};
 use crate::cache::Cache;
 use crate::edits::{edit, unpin_all};
 use crate::held::Edit;
+use crate::idle::{file_freed, refile};
 use iris_name::Name;
 
 impl Cache {
@@ -19,7 +20,8 @@ impl Cache {
         ensures room { self.new.room ≡ self.old.room }
         ensures count { length self.new.nodes ≡ length self.old.nodes }
     {
-        edit(&mut self.nodes, name, change);
+        let edited = edit(&mut self.nodes, name, change);
+        refile(&mut self.idle, &self.nodes, name, edited);
     }
 
     /// Makes a node dirty.
@@ -85,6 +87,7 @@ impl Cache {
         ensures room { self.new.room ≡ self.old.room }
         ensures count { length self.new.nodes ≡ length self.old.nodes }
     {
+        file_freed(&mut self.idle, &self.nodes, who);
         unpin_all(&mut self.nodes, who);
     }
 }

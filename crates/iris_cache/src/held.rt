@@ -1,7 +1,8 @@
 //! What the cache holds of a node.
 
-ghost use Rattle.std.specs.Prelude.{◌≡◌};
+ghost use Rattle.std.specs.Prelude.{◌≡◌, ◌≢◌, ◌≤◌, Some, is_none};
 ghost use Rattle.iris_cache.specs.Held.{IsEdit, edited_node, touched_after, stay_of, with_node};
+ghost use Rattle.iris_cache.specs.Idle.{is_freed_by, is_missing};
 
 use iris_name::{Expect, Name, NoMemory};
 use iris_node::Node;
@@ -67,9 +68,44 @@ pub(crate) enum Edit {
     Adopt(Option<Name>),
 }
 
+/// What an edit of a name did.
+#[derive(Clone, Copy, Debug, PartialEq, Eq)]
+pub(crate) enum Edited {
+    /// Nothing: the name isn't resident.
+    Missing,
+    /// Its node can go as before, or stays as before.
+    Kept,
+    /// Its node can go now and couldn't, or the other way round.
+    Turned,
+}
+
+impl Edited {
+    pub(crate) fn is_missing(self) -> bool
+        ensures { result ≡ is_missing self }
+    {
+        matches!(self, Edited::Missing)
+    }
+}
+
 impl Held {
     // Makes an edit.
-    pub(crate) fn edit(&mut self, edit: Edit)
+    pub(crate) fn edit(&mut self, edit: Edit) -> Edited
+        requires { IsEdit edit self.old }
+        ensures node { self.new ≡ edited_node edit self.old }
+        ensures there { result ≢ Edited.Missing }
+        ensures same { result ≢ Edited.Turned →
+            is_none (stay_of self.new) ≡ is_none (stay_of self.old) }
+    {
+        let was = self.is_free();
+        self.make(edit);
+        if self.is_free() == was {
+            Edited::Kept
+        } else {
+            Edited::Turned
+        }
+    }
+
+    fn make(&mut self, edit: Edit)
         requires { IsEdit edit self.old }
         ensures { self.new ≡ edited_node edit self.old }
     {
@@ -115,6 +151,13 @@ impl Held {
     pub(crate) fn stay(&self) -> Option<Stay>
         ensures { result ≡ stay_of self.now }
     {
+        self.stay_with(self.pins)
+    }
+
+    // Why it can't go with these pins, if so.
+    fn stay_with(&self, pins: u32) -> Option<Stay>
+        ensures { result ≡ stay_of (record self.now { pins = pins }) }
+    {
         if self.out.is_some() {
             return Some(Stay::Out);
         }
@@ -124,10 +167,25 @@ impl Held {
         if self.kids > 0 {
             return Some(Stay::HasKids);
         }
-        if self.pins > 0 {
+        if pins > 0 {
             return Some(Stay::Pinned);
         }
         None
+    }
+
+    // Whether nothing keeps it.
+    pub(crate) fn is_free(&self) -> bool
+        ensures { result ≡ is_none (stay_of self.now) }
+    {
+        self.stay().is_none()
+    }
+
+    // Whether a caller's pin alone keeps it.
+    pub(crate) fn is_freed_by(&self, who: u32) -> bool
+        requires { who ≤ 16 }
+        ensures { result ≡ is_freed_by who (Some self.now) }
+    {
+        !self.is_free() && self.stay_with(self.pins & !(1 << who)).is_none()
     }
 }
 

@@ -12,6 +12,7 @@ use crate::cache::Cache;
 use crate::draft::{Change, Draft};
 use crate::held::Held;
 use indexmap::{IndexMap, IndexSet};
+use iris_links::MOST_LINKS;
 use iris_name::{Name, NoMemory};
 
 impl Cache {
@@ -28,6 +29,8 @@ impl Cache {
             return Err(NoMemory);
         }
         self.nodes.reserve(most)?;
+        self.links.reserve(MOST_LINKS * most)?;
+        self.idle.reserve(self.nodes.len() + most)?;
         self.places.reserve(names)?;
         place_all(&mut self.places, &self.nodes, &draft.changes);
         Ok(())

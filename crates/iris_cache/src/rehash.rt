@@ -11,9 +11,10 @@ ghost use Rattle.iris_cache.specs.Resident.{held_node, map_if, resident_parent};
 
 use crate::cache::Cache;
 use crate::held::{Edit, Held};
+use crate::parts::{high_part, low_part, top_part};
 use indexmap::IndexMap;
 use iris_name::{FileId, Hash32, Name};
-use iris_node::{Body, EntryNode, Link, MOST_LEVEL, Node, PartNode, Side};
+use iris_node::{Body, EntryNode, Link, Node, PartNode, Side};
 
 fn relink(link: Option<Link>, name: &Name, hash: Hash32) -> Option<Link>
     ensures { result ≡ relinked name.now hash link }
@@ -45,18 +46,11 @@ fn rebody(body: Body, id: FileId, name: &Name, hash: Hash32) -> Body
             length,
             counter,
             versions,
-        } => {
-            let whole = Name::Part {
-                file: id,
-                level: MOST_LEVEL,
-                index: 0,
-            };
-            Body::File {
-                length,
-                counter,
-                versions: reside(versions, whole == *name, hash),
-            }
-        }
+        } => Body::File {
+            length,
+            counter,
+            versions: reside(versions, top_part(id) == *name, hash),
+        },
     }
 }
 
@@ -71,16 +65,8 @@ fn reenter(entry: &mut EntryNode, name: &Name, hash: Hash32)
 fn repart(part: &mut PartNode, name: &Name, hash: Hash32)
     ensures { part.new ≡ reparted name.now hash part.old }
 {
-    let low = Name::Part {
-        file: part.file,
-        level: part.level - 1,
-        index: 2 * part.index,
-    };
-    let high = Name::Part {
-        file: part.file,
-        level: part.level - 1,
-        index: 2 * part.index + 1,
-    };
+    let low = low_part(part);
+    let high = high_part(part);
     part.low = reside(part.low, low == *name, hash);
     part.high = reside(part.high, high == *name, hash);
 }

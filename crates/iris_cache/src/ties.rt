@@ -11,6 +11,8 @@ ghost use Rattle.iris_cache.specs.Resident.{held_node, has_room, children, map_i
 use crate::cache::Cache;
 use crate::edits::{count_children, edit, edit_parent};
 use crate::held::{Edit, Held};
+use crate::idle::refile_parent;
+use crate::index::ranged;
 use iris_name::Name;
 
 impl Cache {
@@ -26,8 +28,11 @@ impl Cache {
         ensures count { length self.new.nodes ≡ length self.old.nodes + 1 }
     {
         let name = guest.node.name();
+        ranged(&guest.node);
         self.places.swap_remove(&name);
         guest.kids = count_children(&self.nodes, &name, self.astray);
+        self.idle.file(&name, guest.is_free());
+        self.links.add_node(&guest.node);
         match self.nodes.insert(name, guest) {
             Ok(_) => {}
             Err(_) => unreachable!(),
@@ -44,8 +49,9 @@ impl Cache {
         ensures count { length self.new.nodes ≡ length self.old.nodes }
     {
         edit(&mut self.nodes, name, Edit::Adopt(parent));
-        let missing = edit_parent(&mut self.nodes, parent, Edit::Kid);
-        self.astray |= missing;
+        let edited = edit_parent(&mut self.nodes, parent, Edit::Kid);
+        self.astray |= edited.is_missing();
+        refile_parent(&mut self.idle, &self.nodes, parent, edited);
     }
 
     // Takes a resident node from its parent.
@@ -59,7 +65,8 @@ impl Cache {
     {
         let parent = self.parent_of(name);
         edit(&mut self.nodes, name, Edit::Adopt(None));
-        edit_parent(&mut self.nodes, parent, Edit::Orphan);
+        let edited = edit_parent(&mut self.nodes, parent, Edit::Orphan);
+        refile_parent(&mut self.idle, &self.nodes, parent, edited);
     }
 
     // The parent of a resident node.
@@ -86,6 +93,8 @@ impl Cache {
             unreachable!()
         };
         self.astray |= held.kids > 0;
+        self.links.remove_node(&held.node);
+        self.idle.file(name, false);
         held
     }
 }

@@ -54,7 +54,7 @@ fn is_over(entry: &EntryNode, name: &Name) -> bool {
 }
 
 // The resident entry that has a link to a name.
-fn resident_over(cache: &Cache, name: &Name) -> Option<Name> {
+pub(crate) fn resident_over(cache: &Cache, name: &Name) -> Option<Name> {
     for i in 0..cache.count() {
         let (own, held) = cache.at(i);
         match &held.node {
@@ -103,6 +103,9 @@ pub(crate) fn fetch(
     let parent = parent_of(cache, name).ok_or("no resident node leads to it")?;
     if cache.find(&parent).is_none() {
         return Err("its parent isn't resident".into());
+    }
+    if cache.holder(name) != Some(parent) {
+        return Err("the cache names another holder".into());
     }
     take_in(alloc, cache, Some(parent), record)
 }

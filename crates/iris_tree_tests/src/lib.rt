@@ -14,6 +14,8 @@ mod fetching;
 #[cfg(test)]
 mod filling;
 #[cfg(test)]
+mod holding;
+#[cfg(test)]
 mod keeping;
 #[cfg(test)]
 mod marking;

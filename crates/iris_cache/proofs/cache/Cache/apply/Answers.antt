@@ -9,7 +9,7 @@ use Rattle.iris_cache.specs.Held.{with_parent, with_kids, moved_node}
 use Rattle.iris_cache.specs.Drafted.{Drafted, drafted, is_set}
 use Rattle.iris_cache.specs.Applied.{bare, node_written, node_of_change, spent, hung, landed_node, Lands}
 use Rattle.iris_cache.specs.Resident.{held_node, map_if, IsSoundCache}
-use Rattle.iris_cache.proofs.Hangs.{none-back}
+use Rattle.iris_cache.proofs.HeldChanges.{none-back}
 use Rattle.iris_cache.proofs.Landing.{landing, whole, bare-none}
 use Rattle.iris_cache.proofs.Ways.{over-met}
 use Rattle.iris_cache.proofs.cache.Cache.apply.Goals as goal

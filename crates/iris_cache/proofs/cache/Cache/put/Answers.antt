@@ -5,7 +5,9 @@ use Rattle.iris_node.specs.Nodes.{name_of}
 use Rattle.iris_cache.specs.declared.held.Held.{Held}
 use Rattle.iris_cache.specs.Held.{with_kids}
 use Rattle.iris_cache.specs.Resident.{Resident, held_node, has_room, children}
-use Rattle.iris_cache.proofs.Hangs.{put-sound, put-none, put-children}
+use Rattle.iris_cache.proofs.Guests.{put-sound, put-none, put-children}
+use Rattle.iris_cache.proofs.LinkCounts.{indexed-came}
+use Rattle.iris_cache.proofs.IdleNodes.{idle-came}
 use Rattle.iris_cache.proofs.cache.Cache.put.Goals as goal
 
 pub count_children-requires : goal.count_children-requires
@@ -40,6 +42,8 @@ invariant_of-self c =
       homed = λ so q none.
           put-children C E n v s absent c.requires.alone (sym c.name-name.ensures) c.count_children.ensures is c.in-Ok.ensures.unique q
           ∙ c.self.invariant.homed so q (put-none C E n v s absent c.requires.alone (sym c.name-name.ensures) c.count_children.ensures is c.in-Ok.ensures.unique q none);
+      indexed = indexed-came C E c.self.inside.links c.add_node.new.self n v s.once c.in-Ok.ensures.unique absent is c.add_node.ensures.partial c.add_node.ensures.counts c.add_node.ensures.sums c.ranged.ensures c.self.invariant.indexed;
+      idling = idle-came C E c.self.inside.idle c.file.new.self n v c.is_free.result c.file.ensures.unsure c.file.ensures.names c.is_free.ensures is c.self.invariant.idling;
     }
 
 pub returns-clause-nodes : goal.returns-clause-nodes

@@ -9,7 +9,9 @@ use Rattle.std.specs.List.{count_by}
 use Rattle.iris_cache.specs.Held.{unpinned_node, is_child}
 use Rattle.iris_cache.specs.Resident.{Resident, held_node, children}
 use Rattle.std.specs.Map.{lookup}
-use Rattle.iris_cache.proofs.Hangs.{flagged-sound, flagged-homed, children-all}
+use Rattle.iris_cache.proofs.FlaggedNodes.{flagged-sound, flagged-homed, children-all}
+use Rattle.iris_cache.proofs.LinkCounts.{indexed-all, node-kept}
+use Rattle.iris_cache.proofs.IdleNodes.{idle-released}
 use Rattle.iris_cache.proofs.cache.Cache.release.Goals as goal
 
 pub invariant_of-self : goal.invariant_of-self
@@ -27,6 +29,8 @@ invariant_of-self c =
       sound = flagged-sound C E f t s is oe (λ h. refl) (λ h. refl) same refl (ap length all ∙ length-map C.nodes _);
       places = let p = c.self.invariant.places in let a = c.unpin_all.ensures.spare in omega (arith, p, a);
       homed = λ so. flagged-homed C E f t s is oe (λ h. refl) (λ h. refl) same (c.self.invariant.homed so);
+      indexed = indexed-all C E c.self.inside.links f (node-kept f (λ h. refl)) all is c.self.invariant.indexed;
+      idling = idle-released C E c.self.inside.idle c.file_freed.new.idle c.args.who c.file_freed.ensures.unsure c.file_freed.ensures.names is c.self.invariant.idling;
     }
 
 pub returns-clause-nodes : goal.returns-clause-nodes

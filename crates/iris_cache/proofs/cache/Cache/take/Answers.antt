@@ -1,6 +1,9 @@
 use Rattle.std.proofs.Common.{◌≡◌, refl, ap, sym, ◌∙◌, Some, arith}
 use Rattle.iris_cache.specs.Resident.{Resident, held_node}
-use Rattle.iris_cache.proofs.Hangs.{take-sound, take-homed, or-parts, not-above}
+use Rattle.iris_cache.proofs.Guests.{take-sound, take-homed}
+use Rattle.iris_cache.proofs.Hangs.{or-parts, not-above}
+use Rattle.iris_cache.proofs.LinkCounts.{indexed-went}
+use Rattle.iris_cache.proofs.IdleNodes.{idle-went}
 use Rattle.iris_cache.proofs.cache.Cache.take.Goals as goal
 
 pub invariant_of-self : goal.invariant_of-self
@@ -18,4 +21,6 @@ invariant_of-self c =
       places = let p = c.self.invariant.places in let r = c.in-Some.ensures.room.0 in omega (arith, p, r);
       homed = λ so. let parts = or-parts c.self.inside.astray _ so in
           take-homed C E n h s at alone is c.in-Some.ensures.unique (not-above h.kids parts.1) (c.self.invariant.homed parts.0);
+      indexed = indexed-went C E c.self.inside.links c.remove_node.new.self n h s.once c.in-Some.ensures.unique at is c.remove_node.ensures.partial c.remove_node.ensures.counts c.remove_node.ensures.sums c.self.invariant.indexed;
+      idling = idle-went C E c.self.inside.idle c.file.new.self n c.file.ensures.unsure c.file.ensures.names is c.self.invariant.idling;
     }

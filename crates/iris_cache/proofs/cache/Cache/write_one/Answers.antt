@@ -2,7 +2,7 @@ use Rattle.std.proofs.Common.{◌≡◌, ◌&&◌, refl, ap, sym, ◌∙◌, sub
 use Rattle.std.specs.List.{list_any}
 use Rattle.iris_name.specs.Names.{same_name}
 use Rattle.iris_cache.specs.Resident.{Resident, has_room}
-use Rattle.iris_cache.proofs.Hangs.{no-place}
+use Rattle.iris_cache.proofs.EmptyPlaces.{no-place}
 use Rattle.iris_cache.proofs.cache.Cache.write_one.Goals as goal
 
 pub returns-then-contains_key-clause-room : goal.returns-then-contains_key-clause-room
