@@ -244,22 +244,23 @@ fn clean_block(blocks: &mut Blocks, file: FileId, place: u32) -> Result<(), Fail
     }
 }
 
-// Lets blocks go that can, about three in four rounds of those that are left.
+// Lets some blocks go, of those that can. Tells how many.
 fn let_blocks_go(blocks: &mut Blocks, dice: &mut Dice) -> Result<u32, Fail> {
-    let mut gone = 0u32;
-    while gone < 1000 && dice.roll(16) > 0 {
+    for gone in 0..1000u32 {
+        if dice.roll(16) == 0 {
+            return Ok(gone);
+        }
         match blocks.can_go() {
             Some((file, place)) if blocks.held(file, place).is_some() => {
                 holds(
                     blocks.evict(file, place).is_ok(),
                     "a block stays that can go",
                 )?;
-                gone += 1;
             }
             _ => return Ok(gone),
         }
     }
-    Ok(gone)
+    Ok(1000)
 }
 
 // Compares what was planned of blocks, makes it, settles and cleans all, and compares records.

@@ -8,11 +8,11 @@ use std::test::Fail;
 
 // The block in a record, where there is one.
 pub(crate) fn block_in(record: &[u8]) -> Option<&[u8]> {
-    if record.len() == PAGE_LEN + 32 {
-        Some(&record[..PAGE_LEN])
-    } else {
-        None
+    if record.len() < PAGE_LEN {
+        return None;
     }
+    let (block, _) = record.split_at(PAGE_LEN);
+    Some(block)
 }
 
 fn is_block(name: &Name) -> bool {
