@@ -1,0 +1,3 @@
+pub mod TrueNodes
+pub mod ChildrenOf
+pub mod WaysDown
