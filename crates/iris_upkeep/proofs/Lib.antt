@@ -1,3 +1,4 @@
 pub mod TrueNodes
 pub mod ChildrenOf
 pub mod WaysDown
+pub mod SettlingUp

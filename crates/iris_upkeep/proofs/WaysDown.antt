@@ -60,7 +60,7 @@ child-size t p n tree par =
     let b = ap size-in par.live in
     omega (arith, lt, a, b)
 
-differ : (f : Name → ℕ) (a b : Name) → f a < f b → same_name a b ≡ false
+pub differ : (f : Name → ℕ) (a b : Name) → f a < f b → same_name a b ≡ false
 differ f a b lt = by (same_name a b) refl
   where
     by : (s : Bool) → same_name a b ≡ s → s ≡ false
@@ -93,19 +93,18 @@ module _ (t : Shown) (c : Resident) (what : What) (from : Name) where
   way-distinct at [] w = IsDistinct-cons same_name at [] tt tt
   way-distinct at (p ∷ ps) w = IsDistinct-cons same_name at (p ∷ ps) (apart at at (p ∷ ps) (omega arith) w) (way-distinct p ps w.3)
 
-  above-members : (at : Name) (xs : List Name) → IsWayDown t c what from xs at → (q : Name) → list_any (same_name q) xs ≡ true → list_any (same_name q) (keys_of c.nodes) ≡ true
-  above-members at [] w q h = absurd (true≢false (sym h))
-  above-members at (p ∷ ps) w q h = elim (or-split (same_name q p) (list_any (same_name q) ps) h)
-      [ inl s ↦ subst (λ n. list_any (same_name n) (keys_of c.nodes) ≡ true) (sym (same_name-true q p s)) (marked-member what c p w.0) | inr r ↦ above-members p ps w.3 q r ]
+  above-marked : (at : Name) (xs : List Name) → IsWayDown t c what from xs at → (q : Name) → list_any (same_name q) xs ≡ true → IsMarked what c q
+  above-marked at [] w q h = absurd (true≢false (sym h))
+  above-marked at (p ∷ ps) w q h =
+      elim (or-split (same_name q p) (list_any (same_name q) ps) h) [ inl s ↦ subst (IsMarked what c) (sym (same_name-true q p s)) w.0 | inr r ↦ above-marked p ps w.3 q r ]
 
-  pub way-members : (at : Name) (xs : List Name) → IsMarked what c at → IsWayDown t c what from xs at → (q : Name) → list_any (same_name q) (at ∷ xs) ≡ true → list_any (same_name q) (keys_of c.nodes) ≡ true
-  way-members at xs m w q h = elim (or-split (same_name q at) (list_any (same_name q) xs) h)
-      [ inl s ↦ subst (λ n. list_any (same_name n) (keys_of c.nodes) ≡ true) (sym (same_name-true q at s)) (marked-member what c at m) | inr r ↦ above-members at xs w q r ]
+  pub way-marked : (at : Name) (xs : List Name) → IsMarked what c at → IsWayDown t c what from xs at → (q : Name) → list_any (same_name q) (at ∷ xs) ≡ true → IsMarked what c q
+  way-marked at xs m w q h = elim (or-split (same_name q at) (list_any (same_name q) xs) h) [ inl s ↦ subst (IsMarked what c) (sym (same_name-true q at s)) m | inr r ↦ above-marked at xs w q r ]
 
   -- a way isn't longer than what is resident
   pub way-short : (at : Name) (xs : List Name) → IsMarked what c at → IsWayDown t c what from xs at → length xs < length c.nodes
   way-short at xs m w =
-      let le : length (at ∷ xs) ≤ length (keys_of c.nodes) = length-le_from_is_member same_name_equiv (at ∷ xs) (keys_of c.nodes) (way-distinct at xs w) (way-members at xs m w) in
+      let le : length (at ∷ xs) ≤ length (keys_of c.nodes) = length-le_from_is_member same_name_equiv (at ∷ xs) (keys_of c.nodes) (way-distinct at xs w) (λ q h. marked-member what c q (way-marked at xs m w q h)) in
       let k = length-keys_of c.nodes in
       omega (arith, le, k)
 
