@@ -32,13 +32,13 @@ use Rattle.iris_cache.specs.Pictures.{Pictures}
 use Rattle.iris_cache.specs.Rehash.{relinked, resided, rebodied, reentered, rehashed, with_hash, top_part, low_part, high_part}
 use Rattle.iris_cache.specs.Resident.{Resident, held_node, map_if, resident_parent, parent_in}
 use Rattle.iris_cache.specs.Settled.{Settles}
-use Rattle.iris_cache.proofs.Rising.{or-split, or-left, or-right, above-none}
+use Rattle.iris_cache.proofs.Rising.{or-split, or-left, or-right, above-none, above-same}
 use Rattle.iris_cache.proofs.Settling.{set-hash-keeps}
 use Rattle.iris_upkeep.specs.declared.descent.What.TheVariants.{Unsettled}
-use Rattle.iris_upkeep.specs.Marks.{HasMark, IsMarked, HoldsHashOf}
-use Rattle.iris_upkeep.specs.SettlesInto.{SettlesInto}
+use Rattle.iris_upkeep.specs.Marks.{HasMark, IsAtOrBelow, IsMarked, HoldsHashOf}
+use Rattle.iris_upkeep.specs.SettlesInto.{SettlesInto, StaysOrIsTold}
 use Rattle.iris_upkeep.proofs.TrueNodes.{settled_true}
-use Rattle.iris_upkeep.proofs.WaysDown.{IsWayDown, size-at, differ, held-by, marked-member, way-distinct, way-marked, way-more}
+use Rattle.iris_upkeep.proofs.WaysDown.{IsWayDown, way-up, size-at, differ, held-by, marked-member, way-distinct, way-marked, way-more}
 
 -- ---- what a step leaves of what was held, in every cache
 
@@ -192,6 +192,8 @@ both-distinct (d ∷ ds) ys new apart y =
 pub record Progress (t : Shown) (old c : Resident) (from at : Name) (step : ℕ) : Type 0 where
   pub pictures : Pictures t c
   pub still : (q : Name) (g : Held) → held_node old q ≡ Some g → g.settled ≡ true → held_node c q ≡ Some g
+  pub parents : (q : Name) → resident_parent c q ≡ resident_parent old q
+  pub outside : (q : Name) → (IsAtOrBelow old q from → ⊥) → held_node c q ≡ held_node old q
   pub marked : IsMarked Unsettled c at
   pub done : List Name
   pub above : List Name
@@ -204,10 +206,12 @@ pub record Progress (t : Shown) (old c : Resident) (from at : Name) (step : ℕ)
 pub record Settling (t : Shown) (old c : Resident) (from : Name) : Type 0 where
   pub pictures : Pictures t c
   pub still : (q : Name) (g : Held) → held_node old q ≡ Some g → g.settled ≡ true → held_node c q ≡ Some g
+  pub parents : (q : Name) → resident_parent c q ≡ resident_parent old q
+  pub outside : (q : Name) → (IsAtOrBelow old q from → ⊥) → StaysOrIsTold old c from q
   pub over : (g : Held) → held_node c from ≡ Some g → g.settled ≡ true
 
 pub begins : (t : Shown) (c : Resident) (from : Name) → Pictures t c → IsMarked Unsettled c from → Progress t c c from from 0
-begins t c from pic m = record { pictures = pic; still = λ q g at s. at; marked = m; done = []; above = []; steps = refl; way = refl; new = tt; over = λ q h. absurd (true≢false (sym h)) }
+begins t c from pic m = record { pictures = pic; still = λ q g at s. at; parents = λ q. refl; outside = λ q far. refl; marked = m; done = []; above = []; steps = refl; way = refl; new = tt; over = λ q h. absurd (true≢false (sym h)) }
 
 not-marked : (c : Resident) (g : Held) (o : Option Held) → (IsSomeAnd o (HasMark Unsettled) → ⊥) → o ≡ Some g → g.settled ≡ true
 not-marked c g None m at = absurd (true≢false (ap (λ (z : Option Held). is_some z) (sym at)))
@@ -218,14 +222,14 @@ not-marked c g (Some h) m at = let same : h ≡ g = ap (λ (o : Option Held). op
     by false e = absurd (m e)
 
 pub at-once : (t : Shown) (c : Resident) (from : Name) → Pictures t c → (IsMarked Unsettled c from → ⊥) → Settling t c c from
-at-once t c from pic m = record { pictures = pic; still = λ q g at s. at; over = λ g at. not-marked c g (held_node c from) m at }
+at-once t c from pic m = record { pictures = pic; still = λ q g at s. at; parents = λ q. refl; outside = λ q far. inl refl; over = λ g at. not-marked c g (held_node c from) m at }
 
 module _ (t : Shown) (old c : Resident) (from at : Name) (step : ℕ) (tree : IsTree t) (formed : AreFormed t) (so : Progress t old c from at step) where
   pub descends : (n : Name) → HoldsHashOf c at n → IsMarked Unsettled c n → Progress t old c from n (step + 1)
   descends n h m =
       let s = so.steps in
       record {
-        pictures = so.pictures; still = so.still; marked = m; done = so.done; above = at ∷ so.above; steps = omega (arith, s);
+        pictures = so.pictures; still = so.still; parents = so.parents; outside = so.outside; marked = m; done = so.done; above = at ∷ so.above; steps = omega (arith, s);
         way = way-more t c so.pictures tree formed Unsettled from at n so.above so.marked so.way h m;
         new = so.new; over = so.over;
       }
@@ -269,9 +273,41 @@ module _ (t : Shown) (old c : Resident) (from at : Name) (step : ℕ) (tree : Is
     over-here : IsOver e at
     over-here = over-now t c e at the-held.0 so.pictures tree formed the-held.1 the-held.2 ready is-so
 
+    parents-on : (q : Name) → resident_parent e q ≡ resident_parent old q
+    parents-on q = parent-stays t c e at the-held.0 so.pictures tree formed the-held.1 the-held.2 ready is-so q ∙ so.parents q
+
+    below-old : (q : Name) → IsAtOrBelow c q from → IsAtOrBelow old q from
+    below-old q b = (b.0, sym (above-same (resident_parent c) (resident_parent old) so.parents b.0 (Some q) from) ∙ b.1)
+
+    here-below : IsAtOrBelow old at from
+    here-below = below-old at (way-up t c Unsettled from at so.above so.way)
+
+    here-apart : (q : Name) → (IsAtOrBelow old q from → ⊥) → same_name at q ≡ false
+    here-apart q far = by (same_name at q) refl
+      where
+        by : (b : Bool) → same_name at q ≡ b → b ≡ false
+        by false s = refl
+        by true s = absurd (far (subst (λ n. IsAtOrBelow old n from) (same_name-true at q s) here-below))
+
+    told-by : (b d : Bool) (q : Name) → d ≡ false → b ≡ false → held_node c q ≡ held_node old q → Stepped b d at (hash the-held.0.node) (held_node c q) ≡ held_node old q
+    told-by true d q x y s = absurd (true≢false y)
+    told-by false true q x y s = absurd (true≢false x)
+    told-by false false q x y s = s
+
+    told : (q : Name) → (IsAtOrBelow old q from → ⊥) → at ≡ from → StaysOrIsTold old e from q
+    told q far same = by (points (resident_parent c at) q) (same_name at q) refl (here-apart q far)
+      where
+        by : (b d : Bool) → points (resident_parent c at) q ≡ b → same_name at q ≡ false → StaysOrIsTold old e from q
+        by false d p s = inl (is-so q ∙ told-by (points (resident_parent c at) q) (same_name at q) q s p (so.outside q far))
+        by true d p s = inr (
+          ap (resident_parent old) (sym same) ∙ sym (so.parents at) ∙ pointed (resident_parent c at) q p,
+          (hash the-held.0.node, is-so q ∙ ap (λ b. Stepped b (same_name at q) at (hash the-held.0.node) (held_node c q)) p ∙ ap (λ d. Stepped true d at (hash the-held.0.node) (held_node c q)) s
+              ∙ ap (λ n. option_map (with_hash n (hash the-held.0.node)) (held_node c q)) same ∙ ap (option_map (with_hash from (hash the-held.0.node))) (so.outside q far)),
+        )
+
     pub ends : at ≡ from → Settling t old e from
     ends same = record {
-      pictures = pictures-on; still = still-on;
+      pictures = pictures-on; still = still-on; parents = parents-on; outside = λ q far. told q far same;
       over = λ g s. let r = held-of (λ h. h.settled ≡ true) (held_node e at) over-here in
           ap (λ (o : Option Held). (option_unwrap_or o g).settled) (sym s ∙ ap (held_node e) (sym same) ∙ r.1) ∙ r.2;
     }
@@ -289,6 +325,16 @@ module _ (t : Shown) (old c : Resident) (from at : Name) (step : ℕ) (tree : Is
       | inr d ↦ over-stays t c e at the-held.0 so.pictures tree formed the-held.1 the-held.2 ready is-so q (so.over q d)
     ]
 
+    -- the parent is on the way
+    up-apart : (r : Name) (rs : List Name) → IsWayDown t c Unsettled from (r ∷ rs) at → (q : Name) → (IsAtOrBelow old q from → ⊥) → points (resident_parent c at) q ≡ false
+    up-apart r rs w q far = by (points (resident_parent c at) q) refl
+      where
+        by : (b : Bool) → points (resident_parent c at) q ≡ b → b ≡ false
+        by false s = refl
+        by true s =
+            let same : r ≡ q = ap (λ (o : Option Name). option_unwrap_or o q) (sym w.1 ∙ pointed (resident_parent c at) q s) in
+            absurd (far (subst (λ n. IsAtOrBelow old n from) same (below-old r (way-up t c Unsettled from r rs w.3))))
+
     climbs : (p : Name) (above : List Name) → IsWayDown t c Unsettled from above at → step ≡ 2 * length so.done + length above → resident_parent c at ≡ Some p → (at ≡ from → ⊥) → Progress t old e from p (step + 1)
     climbs p [] w s up apart = absurd (apart w)
     climbs p (r ∷ rs) w s up apart =
@@ -296,7 +342,8 @@ module _ (t : Shown) (old c : Resident) (from at : Name) (step : ℕ) (tree : Is
         let lt = w.2 in
         let le : size-at t at ≤ size-at t r = omega (arith, lt) in
         subst (λ k. Progress t old e from k (step + 1)) same (record {
-          pictures = pictures-on; still = still-on;
+          pictures = pictures-on; still = still-on; parents = parents-on;
+          outside = λ q far. is-so q ∙ told-by (points (resident_parent c at) q) (same_name at q) q (here-apart q far) (up-apart r rs w q far) (so.outside q far);
           marked = marked-stays t c e at the-held.0 so.pictures tree formed the-held.1 the-held.2 ready is-so r (differ (size-at t) at r lt) w.0;
           done = at ∷ so.done; above = rs; steps = omega (arith, s);
           way = way-stays t c e at the-held.0 so.pictures tree formed the-held.1 the-held.2 ready is-so from rs r le w.3;
@@ -337,3 +384,6 @@ module _ (t : Shown) (c : Resident) (from : Name) (pic : Pictures t c) (over : (
 
   pub settled-below : (q : Name) (h : Held) → IsSelfOrAncestor (resident_parent c) q from → held_node c q ≡ Some h → h.settled ≡ true
   settled-below q h up at = below-within up.0 q h up.1 at
+
+pub settled-all : (t : Shown) (old c : Resident) (from : Name) → Settling t old c from → (q : Name) (h : Held) → IsAtOrBelow old q from → held_node c q ≡ Some h → h.settled ≡ true
+settled-all t old c from s q h b at = settled-below t c from s.pictures s.over q h (b.0, above-same (resident_parent c) (resident_parent old) s.parents b.0 (Some q) from ∙ b.1) at

@@ -12,14 +12,15 @@ use Rattle.iris_name.specs.declared.name.Name.{Name}
 use Rattle.iris_node.specs.Trees.{Shown, IsTree, IsParent, IsAbove}
 use Rattle.iris_node.specs.Unfolded.{Unfolded, Absent, Folder, Leaf, Even, Split, Stored}
 use Rattle.iris_cache.specs.declared.held.Held.{Held}
+use Rattle.iris_cache.specs.Applied.{is_above_within}
 use Rattle.iris_cache.specs.Laws.{AreFormed}
 use Rattle.iris_cache.specs.Pictures.{Holds, Pictures}
 use Rattle.iris_cache.specs.Resident.{Resident, held_node, resident_parent, parent_in}
 use Rattle.iris_cache.proofs.Children.{held-child}
-use Rattle.iris_cache.proofs.Rising.{or-split}
+use Rattle.iris_cache.proofs.Rising.{or-left, or-right, or-split}
 use Rattle.iris_upkeep.specs.declared.descent.What.{What}
 use Rattle.iris_upkeep.specs.Children.{HasHash}
-use Rattle.iris_upkeep.specs.Marks.{HasMark, IsMarked, HoldsHashOf}
+use Rattle.iris_upkeep.specs.Marks.{HasMark, IsAtOrBelow, IsMarked, HoldsHashOf}
 use Rattle.iris_upkeep.proofs.TrueNodes.{child_held}
 
 -- how much lies at and below an unfolded node
@@ -100,6 +101,13 @@ module _ (t : Shown) (c : Resident) (what : What) (from : Name) where
 
   pub way-marked : (at : Name) (xs : List Name) → IsMarked what c at → IsWayDown t c what from xs at → (q : Name) → list_any (same_name q) (at ∷ xs) ≡ true → IsMarked what c q
   way-marked at xs m w q h = elim (or-split (same_name q at) (list_any (same_name q) xs) h) [ inl s ↦ subst (IsMarked what c) (sym (same_name-true q at s)) m | inr r ↦ above-marked at xs w q r ]
+
+  -- going up a way one comes to where it came from
+  pub way-up : (at : Name) (xs : List Name) → IsWayDown t c what from xs at → IsAtOrBelow c at from
+  way-up at [] w = (1, or-left (same_name at from) false (ap (same_name at) (sym w) ∙ same_name_equiv.refl at))
+  way-up at (p ∷ ps) w =
+      let r = way-up p ps w.3 in
+      (suc r.0, or-right (same_name at from) (is_above_within (resident_parent c) r.0 (resident_parent c at) from) (ap (λ o. is_above_within (resident_parent c) r.0 o from) w.1 ∙ r.1))
 
   -- a way isn't longer than what is resident
   pub way-short : (at : Name) (xs : List Name) → IsMarked what c at → IsWayDown t c what from xs at → length xs < length c.nodes

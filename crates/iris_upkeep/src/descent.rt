@@ -6,7 +6,7 @@ ghost use Rattle.iris_cache.specs.declared.held.Held.{Held as HeldRecord};
 ghost use Rattle.iris_cache.specs.Pictures.{Holds};
 ghost use Rattle.iris_cache.specs.Resident.{held_node};
 ghost use Rattle.iris_upkeep.specs.Children.{HasHash};
-ghost use Rattle.iris_upkeep.specs.Marks.{HasMark, IsMarked, HoldsHashOf, PicturesTree};
+ghost use Rattle.iris_upkeep.specs.Marks.{HasMark, IsMarked, HoldsHashOf, IsAtOrBelow, PicturesTree};
 
 use crate::children::children_of;
 use iris_cache::{Cache, Held};
@@ -93,6 +93,8 @@ pub fn lowest(cache: &Cache, from: &Name, what: What) -> Option<Name>
     ensures marked { IfSome result (IsMarked what cache.now) }
     ensures childless { IfSome result (λ a. (n : SpecName) →
         HoldsHashOf cache.now a n → IsMarked what cache.now n → ⊥) }
+    ensures below { PicturesTree cache.now →
+        IfSome result (λ a. IsAtOrBelow cache.now a from.now) }
     ensures found { PicturesTree cache.now → IsMarked what cache.now from.now → IsSome result }
     ensures lowest { PicturesTree cache.now → IfSome result (λ a. (n : SpecName) (h : HeldRecord) →
         held_node cache.now n ≡ Some h → h.parent ≡ Some a → HasMark what h → ⊥) }

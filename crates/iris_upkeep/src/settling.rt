@@ -4,13 +4,12 @@ ghost use Rattle.std.specs.Prelude.{◌≡◌, Some, length, true};
 ghost use Rattle.iris_name.specs.declared.name.Name.{Name as SpecName};
 ghost use Rattle.iris_node.specs.Trees.{Shown, IsTree};
 ghost use Rattle.iris_cache.specs.declared.held.Held.{Held as HeldRecord};
-ghost use Rattle.iris_cache.specs.Applied.{IsSelfOrAncestor};
 ghost use Rattle.iris_cache.specs.Laws.{AreFormed};
 ghost use Rattle.iris_cache.specs.Pictures.{Pictures};
 ghost use Rattle.iris_cache.specs.Resident.{held_node, resident_parent};
 ghost use Rattle.iris_cache.specs.Settled.{Settles};
-ghost use Rattle.iris_upkeep.specs.Marks.{IsMarked, PicturesTree};
-ghost use Rattle.iris_upkeep.specs.SettlesInto.{SettlesInto};
+ghost use Rattle.iris_upkeep.specs.Marks.{IsAtOrBelow, IsMarked, PicturesTree};
+ghost use Rattle.iris_upkeep.specs.SettlesInto.{SettlesInto, StaysOrIsTold};
 
 use crate::descent::{What, is_marked, next_down};
 use iris_cache::Cache;
@@ -46,8 +45,10 @@ pub fn settle_all(cache: &mut Cache, from: &Name)
     ensures still { PicturesTree cache.old → (q : SpecName) (h : HeldRecord) →
         held_node cache.old q ≡ Some h → h.settled ≡ true → held_node cache.new q ≡ Some h }
     ensures settled { PicturesTree cache.old → (q : SpecName) (h : HeldRecord) →
-        IsSelfOrAncestor (resident_parent cache.new) q from.now →
-        held_node cache.new q ≡ Some h → h.settled ≡ true }
+        IsAtOrBelow cache.old q from.now → held_node cache.new q ≡ Some h → h.settled ≡ true }
+    ensures elsewhere { PicturesTree cache.old → (q : SpecName) →
+        (IsAtOrBelow cache.old q from.now → ⊥) →
+        StaysOrIsTold cache.old cache.new from.now q }
     ensures room { cache.new.room ≡ cache.old.room }
     ensures count { length cache.new.nodes ≡ length cache.old.nodes }
 {

@@ -1,18 +1,18 @@
-use Rattle.std.proofs.Common.{◌≡◌, ◌∙◌, ap, arith, sym, refl, subst, true, true≢false}
+use Rattle.std.proofs.Common.{inl, ◌≡◌, ◌∙◌, ap, arith, sym, refl, subst, true, true≢false}
 use Rattle.iris_name.specs.Names.{same_name}
 use Rattle.iris_name.specs.NameLaws.{same_name_equiv, same_name-true}
 use Rattle.iris_node.specs.Trees.{Shown, IsTree}
 use Rattle.iris_cache.specs.Laws.{AreFormed}
 use Rattle.iris_cache.specs.Pictures.{Pictures}
 use Rattle.iris_cache.specs.Resident.{held_node}
-use Rattle.iris_upkeep.proofs.SettlingUp.{Settling, ascends, at-once, begins, bounded, descends, ends, ends-at-top, into-same, into-then, settled-below}
+use Rattle.iris_upkeep.proofs.SettlingUp.{Settling, ascends, at-once, begins, bounded, descends, ends, ends-at-top, into-same, into-then, settled-all}
 use Rattle.iris_upkeep.proofs.settling.settle_all.Goals as goal
 
 pub returns-then-not-is_marked-clause-settled : goal.returns-then-not-is_marked-clause-settled
 returns-then-not-is_marked-clause-settled c = λ p q h up at.
     let k = c.args.cache.now in
     let s = at-once p.0 k c.args.from.now p.1 (λ m. true≢false (sym (c.is_marked.ensures.1 m) ∙ c.if-not-is_marked.true)) in
-    settled-below p.0 k c.args.from.now s.pictures s.over q h up at
+    settled-all p.0 k k c.args.from.now s q h up at
 
 pub loop-step-init : goal.loop-step-init
 loop-step-init c = record {
@@ -66,7 +66,10 @@ returns-then-eq-clause-still c = λ p. (at-from c p.0 p.1 p.2.0 p.2.1).still
 
 pub returns-then-eq-clause-settled : goal.returns-then-eq-clause-settled
 returns-then-eq-clause-settled c = λ p.
-    let s = at-from c p.0 p.1 p.2.0 p.2.1 in settled-below p.0 c.settle_one-parent.new.cache c.args.from.now s.pictures s.over
+    settled-all p.0 c.args.cache.now c.settle_one-parent.new.cache c.args.from.now (at-from c p.0 p.1 p.2.0 p.2.1)
+
+pub returns-then-eq-clause-elsewhere : goal.returns-then-eq-clause-elsewhere
+returns-then-eq-clause-elsewhere c = λ p. (at-from c p.0 p.1 p.2.0 p.2.1).outside
 
 at-top : (c : goal.In-None) (t : Shown) → Pictures t c.args.cache.now → IsTree t → AreFormed t → Settling t c.args.cache.now c.settle_one-parent.new.cache c.args.from.now
 at-top c t pic tree formed =
@@ -82,7 +85,13 @@ returns-in-None-clause-still c = λ p. (at-top c p.0 p.1 p.2.0 p.2.1).still
 
 pub returns-in-None-clause-settled : goal.returns-in-None-clause-settled
 returns-in-None-clause-settled c = λ p.
-    let s = at-top c p.0 p.1 p.2.0 p.2.1 in settled-below p.0 c.settle_one-parent.new.cache c.args.from.now s.pictures s.over
+    settled-all p.0 c.args.cache.now c.settle_one-parent.new.cache c.args.from.now (at-top c p.0 p.1 p.2.0 p.2.1)
+
+pub returns-in-None-clause-elsewhere : goal.returns-in-None-clause-elsewhere
+returns-in-None-clause-elsewhere c = λ p. (at-top c p.0 p.1 p.2.0 p.2.1).outside
+
+pub returns-clause-elsewhere : goal.returns-clause-elsewhere
+returns-clause-elsewhere c = λ p q far. inl ((c.loop-step.invariant.progress p.0 p.1 p.2.0 p.2.1).outside q far)
 
 pub returns-clause-settled : goal.returns-clause-settled
 returns-clause-settled c = λ p.
