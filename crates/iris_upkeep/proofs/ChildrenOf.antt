@@ -1,5 +1,5 @@
 -- The names of which a node holds a hash, one by one.
-use Rattle.std.proofs.Common.{◌≡◌, ◌⊎◌, ◌↔◌, inl, inr, Option, Some, None, refl, sym, ◌∙◌, ap, subst, true≢false, is_some}
+use Rattle.std.proofs.Common.{◌≡◌, ◌↔◌, inl, inr, Option, Some, None, refl, sym, ◌∙◌, ap, subst, true≢false, is_some}
 use Rattle.std.specs.Prelude.{IfNone}
 use Rattle.iris_name.specs.declared.name.Name.{Name}
 use Rattle.iris_name.specs.declared.name.Name.TheVariants as name

@@ -2,3 +2,4 @@ pub mod TrueNodes
 pub mod ChildrenOf
 pub mod WaysDown
 pub mod SettlingUp
+mod Examples

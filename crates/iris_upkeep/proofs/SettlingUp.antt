@@ -10,7 +10,6 @@ use Rattle.std.proofs.lemmas.Map.Made.{is_some-lookup, length-le_from_is_member}
 use Rattle.std.proofs.lemmas.Map.Entries.{length-keys_of}
 use Rattle.iris_name.specs.Names.{same_name}
 use Rattle.iris_name.specs.NameLaws.{same_name_equiv, same_name-true}
-use Rattle.iris_name.specs.declared.name.FileId.{FileId}
 use Rattle.iris_name.specs.declared.name.Hash32.{Hash32}
 use Rattle.iris_name.specs.declared.name.Name.{Name}
 use Rattle.iris_node.specs.declared.node.Side.{Side}
@@ -229,9 +228,17 @@ module _ (t : Shown) (old c : Resident) (from at : Name) (step : ℕ) (tree : Is
   descends n h m =
       let s = so.steps in
       record {
-        pictures = so.pictures; still = so.still; parents = so.parents; outside = so.outside; marked = m; done = so.done; above = at ∷ so.above; steps = omega (arith, s);
+        pictures = so.pictures;
+        still = so.still;
+        parents = so.parents;
+        outside = so.outside;
+        marked = m;
+        done = so.done;
+        above = at ∷ so.above;
+        steps = omega (arith, s);
         way = way-more t c so.pictures tree formed Unsettled from at n so.above so.marked so.way h m;
-        new = so.new; over = so.over;
+        new = so.new;
+        over = so.over;
       }
 
   -- more steps than twice what is resident can't be
@@ -301,13 +308,19 @@ module _ (t : Shown) (old c : Resident) (from at : Name) (step : ℕ) (tree : Is
         by false d p s = inl (is-so q ∙ told-by (points (resident_parent c at) q) (same_name at q) q s p (so.outside q far))
         by true d p s = inr (
           ap (resident_parent old) (sym same) ∙ sym (so.parents at) ∙ pointed (resident_parent c at) q p,
-          (hash the-held.0.node, is-so q ∙ ap (λ b. Stepped b (same_name at q) at (hash the-held.0.node) (held_node c q)) p ∙ ap (λ d. Stepped true d at (hash the-held.0.node) (held_node c q)) s
-              ∙ ap (λ n. option_map (with_hash n (hash the-held.0.node)) (held_node c q)) same ∙ ap (option_map (with_hash from (hash the-held.0.node))) (so.outside q far)),
+          (
+            hash the-held.0.node,
+            is-so q ∙ ap (λ b. Stepped b (same_name at q) at (hash the-held.0.node) (held_node c q)) p ∙ ap (λ d. Stepped true d at (hash the-held.0.node) (held_node c q)) s
+                ∙ ap (λ n. option_map (with_hash n (hash the-held.0.node)) (held_node c q)) same ∙ ap (option_map (with_hash from (hash the-held.0.node))) (so.outside q far),
+          ),
         )
 
     pub ends : at ≡ from → Settling t old e from
     ends same = record {
-      pictures = pictures-on; still = still-on; parents = parents-on; outside = λ q far. told q far same;
+      pictures = pictures-on;
+      still = still-on;
+      parents = parents-on;
+      outside = λ q far. told q far same;
       over = λ g s. let r = held-of (λ h. h.settled ≡ true) (held_node e at) over-here in
           ap (λ (o : Option Held). (option_unwrap_or o g).settled) (sym s ∙ ap (held_node e) (sym same) ∙ r.1) ∙ r.2;
     }
@@ -342,12 +355,17 @@ module _ (t : Shown) (old c : Resident) (from at : Name) (step : ℕ) (tree : Is
         let lt = w.2 in
         let le : size-at t at ≤ size-at t r = omega (arith, lt) in
         subst (λ k. Progress t old e from k (step + 1)) same (record {
-          pictures = pictures-on; still = still-on; parents = parents-on;
+          pictures = pictures-on;
+          still = still-on;
+          parents = parents-on;
           outside = λ q far. is-so q ∙ told-by (points (resident_parent c at) q) (same_name at q) q (here-apart q far) (up-apart r rs w q far) (so.outside q far);
           marked = marked-stays t c e at the-held.0 so.pictures tree formed the-held.1 the-held.2 ready is-so r (differ (size-at t) at r lt) w.0;
-          done = at ∷ so.done; above = rs; steps = omega (arith, s);
+          done = at ∷ so.done;
+          above = rs;
+          steps = omega (arith, s);
           way = way-stays t c e at the-held.0 so.pictures tree formed the-held.1 the-held.2 ready is-so from rs r le w.3;
-          new = (not-again, so.new); over = over-all;
+          new = (not-again, so.new);
+          over = over-all;
         })
 
     pub ascends : (p : Name) → resident_parent c at ≡ Some p → (at ≡ from → ⊥) → Progress t old e from p (step + 1)

@@ -1,7 +1,5 @@
 -- What a node in a pictured tree holds: a hash of each child; and where those are true, it is the node with its true hashes.
 use Rattle.std.proofs.Common.{◌≡◌, ◌⊎◌, inl, inr, ℕ, ◌+◌, ◌-◌, ◌*◌, true, Option, Some, None, refl, sym, ◌∙◌, ap, subst}
-use Rattle.std.specs.Option.{option_map}
-use Rattle.iris_name.specs.declared.name.FileId.{FileId}
 use Rattle.iris_name.specs.declared.name.Hash32.{Hash32}
 use Rattle.iris_name.specs.declared.name.Name.{Name}
 use Rattle.iris_name.specs.declared.name.Name.TheVariants as name
@@ -13,9 +11,9 @@ use Rattle.iris_node.specs.declared.node.Body.TheVariants.{Dir, File}
 use Rattle.iris_node.specs.declared.node.Node.{Node}
 use Rattle.iris_node.specs.declared.node.Node.TheVariants as node
 use Rattle.iris_node.specs.Fields.{EntryFields, PartFields}
-use Rattle.iris_node.specs.Local.{FolderAt, LeafAt, SplitAt, Lead, led, led_by, even, even_by, local, entry_local, local_of}
+use Rattle.iris_node.specs.Local.{Lead, led, led_by, even, even_by, local, entry_local, local_of}
 use Rattle.iris_node.specs.Trees.{Shown, IsTree, IsAbove, IsParent, node_name}
-use Rattle.iris_node.specs.Unfolded.{Unfolded, Absent, Folder, Leaf, Even, Split, Stored, id_of, blocks, hash, link_to, side_to, node_of}
+use Rattle.iris_node.specs.Unfolded.{Unfolded, Absent, Folder, Leaf, Even, Split, Stored, id_of, blocks, link_to, side_to, node_of}
 use Rattle.iris_cache.specs.declared.held.Held.{Held}
 use Rattle.iris_cache.specs.Laws.{AreFormed, IsFormed, IsLinked, IsSide}
 use Rattle.iris_cache.specs.Pictures.{Holds, LinkHolds, SideHolds, BodyHolds, IsHashOf, IsLike, IsSettled, Pictures}
@@ -162,7 +160,7 @@ pub settled_true : (t : Shown) (c : Resident) (n : Name) (u : Unfolded) (h : Hel
 settled_true t c n u h pic tree formed at live all =
     let like = pic.nodes n h at in
     true_node t n u h.node tree formed live like (λ m x holds.
-        pic.hashes n m h x at holds (settled_by t c n m pic (held-child t n m h.node x formed like holds) all (held_node c m) refl))
+    pic.hashes n m h x at holds (settled_by t c n m pic (held-child t n m h.node x formed like holds) all (held_node c m) refl))
 
 -- ---- a parent holds a hash of its child
 

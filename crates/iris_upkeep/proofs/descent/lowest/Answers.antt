@@ -1,4 +1,4 @@
-use Rattle.std.proofs.Common.{◌≡◌, ◌<◌, ◌∷◌, ap, arith, length, refl, subst, sym, suc}
+use Rattle.std.proofs.Common.{◌∷◌, arith, refl, subst, sym}
 use Rattle.std.specs.Prelude.{IsSomeAnd}
 use Rattle.iris_cache.specs.Resident.{held_node}
 use Rattle.iris_upkeep.specs.Marks.{HasMark}

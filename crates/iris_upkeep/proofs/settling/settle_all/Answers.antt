@@ -1,4 +1,4 @@
-use Rattle.std.proofs.Common.{inl, ◌≡◌, ◌∙◌, ap, arith, sym, refl, subst, true, true≢false}
+use Rattle.std.proofs.Common.{inl, ◌∙◌, ap, arith, sym, refl, true≢false}
 use Rattle.iris_name.specs.Names.{same_name}
 use Rattle.iris_name.specs.NameLaws.{same_name_equiv, same_name-true}
 use Rattle.iris_node.specs.Trees.{Shown, IsTree}
