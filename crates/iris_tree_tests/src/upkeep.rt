@@ -18,16 +18,11 @@ const ROOT: Name = Name::Entry { id: FileId(0) };
 
 // A directory, and the first file.
 const DIR: Name = Name::Entry { id: FileId(2) };
+
 const FILE: FileId = FileId(3);
 
 // Makes so many files, with ids from one on.
-fn fill(
-    alloc: Global,
-    cache: &mut Cache,
-    front: &str,
-    first: u64,
-    count: u64,
-) -> Result<(), Fail> {
+fn fill(alloc: Global, cache: &mut Cache, front: &str, first: u64, count: u64) -> Result<(), Fail> {
     for i in 0..count {
         let id = first.saturating_add(i);
         let name = format!(in alloc; "{front}{id}")?;
@@ -46,7 +41,15 @@ fn write(alloc: Global, cache: &mut Cache, place: u32) -> Result<(), Fail>
     if !is_file(&draft, cache, FILE) {
         return Err("the file's entry is missing".into());
     }
-    plan_set(alloc, &mut draft, cache, FILE, place, place + 1, place as u64 + 1)?;
+    plan_set(
+        alloc,
+        &mut draft,
+        cache,
+        FILE,
+        place,
+        place + 1,
+        place as u64 + 1,
+    )?;
     land(cache, draft)
 }
 
@@ -155,9 +158,11 @@ fn settles_alike(alloc: Global) -> Result<bool, Fail> {
     let mut cache = grown(alloc)?;
     let records = settled_alone(alloc)?;
     settle_all(&mut cache, &ROOT);
-    Ok(are_recorded(alloc, &cache, records.as_slice(), None)?
-        && marked_in(&cache, What::Unsettled) == 0
-        && marked_in(&cache, What::Dirty) == cache.count())
+    Ok(
+        are_recorded(alloc, &cache, records.as_slice(), None)?
+            && marked_in(&cache, What::Unsettled) == 0
+            && marked_in(&cache, What::Dirty) == cache.count(),
+    )
 }
 
 // Another hash than that of the record, or a node that stays unsettled.
