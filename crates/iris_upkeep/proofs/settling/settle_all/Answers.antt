@@ -5,7 +5,8 @@ use Rattle.iris_node.specs.Trees.{Shown, IsTree}
 use Rattle.iris_cache.specs.Laws.{AreFormed}
 use Rattle.iris_cache.specs.Pictures.{Pictures}
 use Rattle.iris_cache.specs.Resident.{held_node}
-use Rattle.iris_upkeep.proofs.SettlingUp.{Settling, ascends, at-once, begins, bounded, descends, ends, ends-at-top, into-same, into-then, settled-all}
+use Rattle.iris_upkeep.proofs.SettlingUp.{Settling, ascends, at-once, begins, bounded, descends, ends, ends-at-top, settled-all}
+use Rattle.iris_upkeep.proofs.Stepped.{into-same, into-then}
 use Rattle.iris_upkeep.proofs.settling.settle_all.Goals as goal
 
 pub returns-then-not-is_marked-clause-settled : goal.returns-then-not-is_marked-clause-settled

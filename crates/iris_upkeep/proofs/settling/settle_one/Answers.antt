@@ -3,7 +3,7 @@ use Rattle.iris_name.specs.Names.{same_name}
 use Rattle.iris_cache.specs.Held.{points}
 use Rattle.iris_cache.specs.Resident.{held_node, resident_parent}
 use Rattle.iris_upkeep.specs.SettlesInto.{SettlesInto}
-use Rattle.iris_upkeep.proofs.SettlingUp.{into-stepped}
+use Rattle.iris_upkeep.proofs.Stepped.{into-stepped}
 use Rattle.iris_upkeep.proofs.settling.settle_one.Goals as goal
 
 pub returns-clause-nodes : goal.returns-clause-nodes
