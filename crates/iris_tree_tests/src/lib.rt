@@ -24,4 +24,6 @@ mod paths_beside;
 #[cfg(test)]
 mod planning;
 #[cfg(test)]
+mod upkeep;
+#[cfg(test)]
 mod versions;
