@@ -1,11 +1,9 @@
-//! A few files over a cache and blocks beside a table, with names and blocks evicted at will.
+//! All plans over a cache and blocks beside a table, with names and blocks evicted at will.
 
-ghost use Rattle.std.specs.Prelude.{◌≤◌, ◌<◌};
-
+use crate::asking::{keep, some_filling, some_request};
 use crate::comparing::{are_blocks_recorded, are_changes, block_in, holds};
 use crate::dice::Dice;
 use crate::fetching::{fetch, record_of};
-use crate::filling::some_bytes;
 use crate::keeping::{are_recorded, let_some_go, settle_all};
 use crate::planning::{Ground, Plan, planned};
 use iris_blocks::{Blocks, PageDraft};
@@ -16,8 +14,8 @@ use iris_table::Table;
 use std::alloc::Global;
 use std::test::Fail;
 
-// A table, its records, and a cache and blocks in which the same is planned; and how many blocks were taken in and let go, and how
-// many requests changed something.
+// A table, its records, and a cache and blocks in which the same is planned; the paths that were made or moved to; and how many names
+// were taken in and let go, and how many requests changed something.
 #[derive(Drop)]
 struct Beside {
     keys: Keys,
@@ -25,6 +23,7 @@ struct Beside {
     records: Vec<(Name, Bytes)>,
     cache: Cache,
     blocks: Blocks,
+    met: Vec<Text>,
     fetched: u32,
     gone: u32,
     done: u32,
@@ -37,69 +36,27 @@ enum Tried {
     Lacks(Name, Expect),
 }
 
-// One of three paths.
-fn some_path(alloc: Global, dice: &mut Dice) -> Result<Text, Fail> {
-    let mut words = String::new(alloc);
-    words.push('/')?;
-    words.push((b'a' + dice.roll(3) as u8) as char)?;
-    Ok(Text::of(words))
-}
-
-// An offset near one of a few places, or inside the first blocks.
-fn some_offset(dice: &mut Dice) -> u64
-    ensures { result < 100000 }
-{
-    u64::from(dice.roll(3)) * 24_000 + u64::from(dice.roll(9000))
-}
-
-// So many bytes, of which some fill a block, some a few, and some less than one.
-fn some_count(dice: &mut Dice) -> usize
-    ensures { result ≤ 20001 }
-{
-    match dice.roll(4) {
-        0 => 4096,
-        1 => dice.roll(20_000) as usize + 1,
-        _ => dice.roll(3000) as usize + 1,
+// Asks a table for this and that, and keeps the paths that it made.
+fn fill(
+    alloc: Global,
+    table: &mut Table,
+    met: &mut Vec<Text>,
+    dice: &mut Dice,
+) -> Result<(), Fail> {
+    for _ in 0..60 {
+        let request = some_filling(alloc, dice, met.as_slice())?;
+        if table.step(alloc, &request)? == Reply::Done {
+            keep(alloc, met, &request)?;
+        }
     }
+    Ok(())
 }
 
-fn some_request(alloc: Global, dice: &mut Dice) -> Result<Request, Fail> {
-    let path = some_path(alloc, dice)?;
-    let request = match dice.roll(8) {
-        0 => Request::Create { path },
-        1 => Request::Resize {
-            path,
-            length: some_offset(dice) + 1,
-        },
-        2 | 3 => Request::Read {
-            path,
-            offset: some_offset(dice),
-            length: u64::from(dice.roll(40_000)),
-        },
-        _ => some_write(alloc, dice, path)?,
-    };
-    Ok(request)
-}
-
-// A write, often of whole blocks.
-fn some_write(alloc: Global, dice: &mut Dice, path: Text) -> Result<Request, Fail> {
-    let offset = some_offset(dice);
-    let offset = if dice.roll(3) == 0 {
-        offset / 4096 * 4096
-    } else {
-        offset
-    };
-    let count = some_count(dice);
-    Ok(Request::Write {
-        path,
-        offset,
-        bytes: some_bytes(alloc, dice.roll(256) as u8, count)?,
-    })
-}
-
-fn set_up(alloc: Global) -> Result<Beside, Fail> {
+fn set_up(alloc: Global, dice: &mut Dice) -> Result<Beside, Fail> {
     let keys = Keys::of(&[0; 32]);
-    let table = Table::new(alloc, &keys)?;
+    let mut table = Table::new(alloc, &keys)?;
+    let mut met = Vec::new(alloc);
+    fill(alloc, &mut table, &mut met, dice)?;
     let records = table.records_of(alloc, &keys)?;
     Ok(Beside {
         keys,
@@ -107,6 +64,7 @@ fn set_up(alloc: Global) -> Result<Beside, Fail> {
         records,
         cache: Cache::new(alloc),
         blocks: Blocks::new(alloc),
+        met,
         fetched: 0,
         gone: 0,
         done: 0,
@@ -158,9 +116,7 @@ fn fetch_block(
         "another version",
     )?;
     let block = block_in(record).ok_or("a record of a block")?;
-    put_block(alloc, &mut beside.blocks, file, place, version, block)?;
-    beside.fetched = beside.fetched.saturating_add(1);
-    Ok(())
+    put_block(alloc, &mut beside.blocks, file, place, version, block)
 }
 
 fn put_block(
@@ -182,6 +138,7 @@ fn put_block(
 
 // Takes in what a plan lacks, from the records before it.
 fn supply(alloc: Global, beside: &mut Beside, name: &Name, expect: &Expect) -> Result<(), Fail> {
+    beside.fetched = beside.fetched.saturating_add(1);
     match (name, expect) {
         (Name::Block { file, place }, Expect::Version(version)) => {
             fetch_block(alloc, beside, *file, *place, *version)
@@ -285,42 +242,48 @@ fn compare_resident(alloc: Global, beside: &mut Beside) -> Result<(), Fail> {
     clean_blocks(&mut beside.blocks)
 }
 
-// Asks both, and compares replies, the pages, and the records.
+// Asks both, and compares replies, and after a change the pages and the records.
 fn ask(alloc: Global, beside: &mut Beside, request: &Request) -> Result<(), Fail> {
     let want = beside.table.step(alloc, request)?;
     let (planned, plan) = reply(alloc, beside, request)?;
     holds(planned == want, "another reply")?;
-    if plan.draft.count() > 0 {
+    if want == Reply::Done {
         beside.done = beside.done.saturating_add(1);
+        keep(alloc, &mut beside.met, request)?;
+        return compare(alloc, beside, plan);
     }
-    compare(alloc, beside, plan)
+    holds(
+        plan.draft.count() == 0 && plan.pages.count() == 0,
+        "a change without a reason",
+    )?;
+    land(beside, plan)
 }
 
 fn round(alloc: Global, beside: &mut Beside, dice: &mut Dice) -> Result<(), Fail> {
-    let request = some_request(alloc, dice)?;
+    let request = some_request(alloc, dice, beside.met.as_slice())?;
     ask(alloc, beside, &request)?;
-    let gone = let_blocks_go(&mut beside.blocks, dice)?;
-    let_some_go(alloc, &mut beside.cache, dice)?;
-    beside.gone = beside.gone.saturating_add(gone);
+    let blocks = let_blocks_go(&mut beside.blocks, dice)?;
+    let nodes = let_some_go(alloc, &mut beside.cache, dice)?;
+    beside.gone = beside.gone.saturating_add(blocks).saturating_add(nodes);
     Ok(())
 }
 
-// How many blocks were taken in and let go, and how many changes done.
+// How many names were taken in and let go, and how many changes done.
 fn run(alloc: Global, rounds: u32) -> Result<(u32, u32, u32), Fail> {
     let mut dice = Dice::of(1);
-    let mut beside = set_up(alloc)?;
+    let mut beside = set_up(alloc, &mut dice)?;
     for _ in 0..rounds {
         round(alloc, &mut beside, &mut dice)?;
     }
     Ok((beside.fetched, beside.gone, beside.done))
 }
 
-// Replies, pages and records of random creates, writes, reads and resizes.
+// Replies, pages and records of random requests of each kind that a plan serves.
 #[test]
-fn files_as_the_table_answers(rt: HostRuntime) -> Result<(), Fail> {
-    let (fetched, gone, done) = run(rt.alloc(), 150)?;
+fn plans_as_the_table_answers(rt: HostRuntime) -> Result<(), Fail> {
+    let (fetched, gone, done) = run(rt.alloc(), 300)?;
     assert!(rt;
-        fetched > 100 && gone > 100 && done > 60,
+        fetched > 500 && gone > 500 && done > 50,
         "{fetched} {gone} {done}"
     );
     Ok(())

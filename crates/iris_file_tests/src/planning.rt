@@ -1,13 +1,14 @@
-//! Requests on files are planned over a cache and resident blocks.
+//! Requests are planned over a cache and resident blocks.
 
 use iris_blocks::{Blocks, PageDraft};
 use iris_cache::{Cache, Draft, Short};
+use iris_dirtree::plan_place;
 use iris_files::{plan_read, plan_resize, plan_write};
 use iris_mac::Keys;
 use iris_name::{Bytes, FileId, Path, PlainError, Reply, Request, Text};
 use iris_node::Body;
-use iris_paths::{Found, plan_make, resolve};
-use iris_version_tree::{file_entry, is_file};
+use iris_paths::{Found, plan_list, plan_make, plan_rename, plan_stat, resolve};
+use iris_version_tree::{file_entry, is_file, version_at};
 use std::alloc::Global;
 
 // What a request is planned over, and what its plan has changed so far.
@@ -49,18 +50,87 @@ fn file_at(
     }
 }
 
-fn create(alloc: Global, plan: &mut Plan, ground: &Ground, text: &Text) -> Result<Reply, Short> {
+fn told(error: Option<PlainError>) -> Reply {
+    match error {
+        None => Reply::Done,
+        Some(error) => Reply::Plain(error),
+    }
+}
+
+fn make(
+    alloc: Global,
+    plan: &mut Plan,
+    ground: &Ground,
+    text: &Text,
+    dir: bool,
+) -> Result<Reply, Short> {
     let path = read_path(alloc, text)?;
-    let made = plan_make(
+    let draft = &mut plan.draft;
+    let error = plan_make(
         alloc,
-        &mut plan.draft,
+        draft,
         ground.cache,
         ground.keys,
         &path,
         ground.next,
-        false,
+        dir,
     )?;
-    Ok(made.map_or(Reply::Done, Reply::Plain))
+    Ok(told(error))
+}
+
+fn rename(
+    alloc: Global,
+    plan: &mut Plan,
+    ground: &Ground,
+    from: &Text,
+    to: &Text,
+) -> Result<Reply, Short> {
+    let from = read_path(alloc, from)?;
+    let to = read_path(alloc, to)?;
+    let error = plan_rename(
+        alloc,
+        &mut plan.draft,
+        ground.cache,
+        ground.keys,
+        &from,
+        &to,
+    )?;
+    Ok(told(error))
+}
+
+fn list(
+    alloc: Global,
+    plan: &Plan,
+    ground: &Ground,
+    path: &Text,
+    after: &Text,
+) -> Result<Reply, Short> {
+    let path = read_path(alloc, path)?;
+    plan_list(alloc, &plan.draft, ground.cache, &path, after)
+}
+
+fn stat(alloc: Global, plan: &Plan, ground: &Ground, path: &Text) -> Result<Reply, Short> {
+    let path = read_path(alloc, path)?;
+    plan_stat(&plan.draft, ground.cache, &path)
+}
+
+// The version of a block of a file.
+fn version(plan: &Plan, ground: &Ground, file: FileId, place: u32) -> Result<u64, Short> {
+    if place >= 65_536 || !is_file(&plan.draft, ground.cache, file) {
+        return Err(Short::NoMemory);
+    }
+    version_at(&plan.draft, ground.cache, file, place)
+}
+
+fn probe(plan: &Plan, ground: &Ground, at: u64) -> Result<Reply, Short> {
+    match plan_place(&plan.draft, ground.cache, at)? {
+        Some((file, place)) => Ok(Reply::Probed {
+            file,
+            place,
+            version: version(plan, ground, file, place)?,
+        }),
+        None => Ok(Reply::Plain(PlainError::NotFound)),
+    }
 }
 
 fn write(
@@ -194,7 +264,12 @@ pub(crate) fn planned(
     request: &Request,
 ) -> Result<Reply, Short> {
     match request {
-        Request::Create { path } => create(alloc, plan, ground, path),
+        Request::Mkdir { path } => make(alloc, plan, ground, path, true),
+        Request::Create { path } => make(alloc, plan, ground, path, false),
+        Request::Rename { from, to } => rename(alloc, plan, ground, from, to),
+        Request::List { path, after } => list(alloc, plan, ground, path, after),
+        Request::Stat { path } => stat(alloc, plan, ground, path),
+        Request::Probe { at } => probe(plan, ground, *at),
         Request::Write { path, .. } => on_path(alloc, plan, ground, path, request),
         Request::Resize { path, .. } => on_path(alloc, plan, ground, path, request),
         Request::Read { path, .. } => on_path(alloc, plan, ground, path, request),

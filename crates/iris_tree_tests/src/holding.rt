@@ -88,7 +88,12 @@ fn take_again(cache: &mut Cache, mut gone: Vec<Node>) -> Result<bool, Fail> {
 }
 
 // One change; then all is settled, and some go and come again. Tells how many, or nothing where the cache and a pass differ.
-fn round(alloc: Global, cache: &mut Cache, dice: &mut Dice, id: u64) -> Result<Option<usize>, Fail> {
+fn round(
+    alloc: Global,
+    cache: &mut Cache,
+    dice: &mut Dice,
+    id: u64,
+) -> Result<Option<usize>, Fail> {
     change(alloc, cache, dice, id)?;
     settle_all(alloc, cache)?;
     cache.release(0);

@@ -20,8 +20,6 @@ mod keeping;
 #[cfg(test)]
 mod marking;
 #[cfg(test)]
-mod paths_beside;
-#[cfg(test)]
 mod planning;
 #[cfg(test)]
 mod upkeep;
