@@ -1,11 +1,12 @@
 -- Examples beside the definitions: one that is, and one near by that isn't.
-use Rattle.std.proofs.Common.{◌≡◌, inl, inr, ℕ, zero, suc, true, false, [], ◌∷◌, Some, None, refl, sym, true≢false}
+use Rattle.std.proofs.Common.{◌≡◌, inl, inr, ℕ, zero, suc, Bool, true, false, [], ◌∷◌, Option, Some, None, refl, ap, sym, true≢false, is_some}
 use Rattle.iris_name.specs.declared.name.Hash32.{Hash32}
 use Rattle.iris_name.specs.declared.name.Name.{Name}
 use Rattle.iris_name.specs.declared.name.Name.TheVariants as name
 use Rattle.iris_node.specs.declared.node.Side.TheVariants.{Fold, Below}
 use Rattle.iris_node.specs.declared.node.Node.{Node}
 use Rattle.iris_node.specs.declared.node.Node.TheVariants.{Part}
+use Rattle.iris_node.specs.Trees.{Shown}
 use Rattle.iris_cache.specs.declared.held.Held.{Held}
 use Rattle.iris_cache.specs.Applied.{is_above_within}
 use Rattle.iris_cache.specs.Held.{settled_so}
@@ -14,7 +15,7 @@ use Rattle.iris_cache.specs.Rehash.{with_hash}
 use Rattle.iris_cache.specs.Resident.{Resident, resident_parent}
 use Rattle.iris_upkeep.specs.declared.descent.What.TheVariants.{Dirty, Unsettled}
 use Rattle.iris_upkeep.specs.Children.{HasChild, HasHash}
-use Rattle.iris_upkeep.specs.Marks.{HoldsHashOf, IsAtOrBelow, IsMarked}
+use Rattle.iris_upkeep.specs.Marks.{HoldsHashOf, IsAtOrBelow, IsMarked, PicturesTree}
 use Rattle.iris_upkeep.specs.SettlesInto.{SettlesInto, StaysOrIsTold}
 
 some-hash : Hash32
@@ -108,3 +109,43 @@ goes e = e
 
 stays-itself : StaysOrIsTold two two under over
 stays-itself = inl refl
+
+-- an empty cache pictures a tree, the empty one; one whose node has a parent that isn't resident pictures none
+none-there : {A : Type 0} (a : A) → None ≡ Some a → ⊥
+none-there a e = true≢false (ap (λ o. is_some o) (sym e))
+
+nothing : Shown
+nothing n = None
+
+empty-pictures : PicturesTree (record { nodes = []; room = [] })
+unfolding nothing
+empty-pictures = (
+  nothing,
+  record {
+    nodes = λ n h at. absurd (none-there h at);
+    hashes = λ n m h x at. absurd (none-there h at);
+    parents = λ n p h at. absurd (none-there h at);
+    tied = λ n p h at. absurd (none-there h at);
+    rising = λ n p h g at. absurd (none-there h at);
+  },
+  (record { own = λ n m u at. absurd (none-there u at); below = λ p n u w at. absurd (none-there u at); once = λ n p q f. absurd (none-there f.parent f.live) }, λ n u at. absurd (none-there u at)),
+)
+
+abbrev orphaned : Resident
+orphaned = record { nodes = (under, held-under) ∷ []; room = [] }
+
+orphan-pictures-none : PicturesTree orphaned → ⊥
+orphan-pictures-none p = true≢false (sym ((p.1.parents under over held-under refl (p.1.tied under over held-under refl refl)).1))
+
+-- a parent is told; another node isn't
+told-parent : StaysOrIsTold two (record { nodes = (over, with_hash under (record { 0 = 1 ∷ [] }) held-over) ∷ (under, held-under) ∷ []; room = [] }) under over
+told-parent = inr (refl, (record { 0 = 1 ∷ [] }, refl))
+
+is_settled : Option Held → Bool
+is_settled None = true
+is_settled (Some h) = h.settled
+
+unsettles : StaysOrIsTold two (record { nodes = (over, held-over) ∷ (under, record held-under { settled = false }) ∷ []; room = [] }) over under → ⊥
+unfolding is_settled
+unsettles (inl e) = true≢false (sym (ap (λ o. is_settled o) e))
+unsettles (inr r) = none-there under r.0
