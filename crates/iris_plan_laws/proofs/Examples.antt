@@ -1,6 +1,7 @@
 -- What the definitions hold of, and what near by they don't.
-use Rattle.std.proofs.Common.{◌≡◌, ℕ, ◌+◌, ◌<◌, ◌≤◌, List, [], ◌∷◌, Bool, true, false, ◌||◌, cond, Option, Some, None, refl, ◌∙◌, ap, arith, sym, subst}
-use Rattle.std.specs.Prelude.{◌==◌, codes}
+use Rattle.std.proofs.Common.{◌≡◌, ℕ, ◌+◌, ◌<◌, ◌≤◌, List, [], ◌∷◌, Bool, true, false, ◌||◌, ◌&&◌, cond, Option, Some, None, refl, ◌∙◌, ap, arith, sym, subst}
+use Rattle.std.specs.Prelude.{◌==◌, codes, nat_lt}
+use Rattle.std.specs.List.{IsDistinct}
 use Rattle.std.proofs.lemmas.Bool.Decides.{nat_tests}
 use Rattle.iris_name.specs.declared.name.FileId.{FileId}
 use Rattle.iris_name.specs.declared.name.Name.TheVariants.{Entry, Part, Block}
@@ -15,6 +16,12 @@ use Rattle.iris_rows.specs.FileChanges.{is_touched}
 use Rattle.iris_rows.specs.Rows.{File, Rows, End, Row, Table, Taken, Found, Here, root_row, met, empty_table, empty_file, zeros}
 use Rattle.iris_shape.specs.FoldLaws.{with_range_set}
 use Rattle.iris_forest.proofs.Ids.{taken_eq}
+use Rattle.iris_blocks.specs.Changes.{PageDrafted, from_to}
+use Rattle.iris_blocks.specs.Paged.{Paged, ArePagesSound, Shows}
+use Rattle.iris_plain.specs.Checks.{blocks_of}
+use Rattle.iris_files.specs.Cuts.{page_cut}
+use Rattle.iris_files.specs.Pages.{is_block_in, place_of}
+use Rattle.iris_files.specs.Refiles.{Filed}
 use Rattle.iris_cache.specs.Resident.{Resident}
 use Rattle.iris_cache.specs.Drafted.{Drafted, taken_away}
 use Rattle.iris_cache.specs.Pictures.{Pictures}
@@ -23,11 +30,14 @@ use Rattle.iris_plan_laws.specs.Begun.{IsAtFile, IsPictured, PlanBegins}
 use Rattle.iris_plan_laws.specs.Blocks.{SameBlocks, ChangesBlocks, AreAmong, is_cut_at, IsOfRows}
 use Rattle.iris_plan_laws.specs.FileChanges.{emptied_past}
 use Rattle.iris_plan_laws.specs.Makes.{making}
+use Rattle.iris_plan_laws.specs.PageChanges.{PagesBegin, PagesGoThrough, IsLanded, SaysPagesWritten, SaysPagesResized}
 use Rattle.iris_plan_laws.specs.Moves.{in_hand, left_below}
 use Rattle.iris_plan_laws.specs.Steps.{IsEmptyContent}
 use Rattle.iris_plan_laws.specs.Takes.{TakesOut, PutsIn}
 use Rattle.iris_plan_laws.proofs.AcceptedRequests.{IsMove, accepted_move, moved_step}
+use Rattle.iris_plan_laws.proofs.BlocksOfRows.{rows_keep_blocks}
 use Rattle.iris_plan_laws.proofs.MovedRow.{HalvesOfMove, halves_of_move}
+use Rattle.iris_plan_laws.proofs.PagesOfSteps.{rows_keep_pages}
 
 -- ---- new content
 
@@ -218,3 +228,55 @@ not_taken t names name i rows row h = let e : End ≡ Row row.id name row.file r
 -- nor put in
 not_put : (t : Table) (names : List (List ℕ)) (name label : List ℕ) (i : ℕ) (rows : Rows) (row : Taken) → PutsIn t t names name label i rows row → ⊥
 not_put t names name label i rows row h = let e : End ≡ Row row.id name row.file row.inside End = sym h.empty ∙ h.hand in absurd (cc)
+
+-- ---- drafts of pages
+
+abbrev no_pages : PageDrafted
+no_pages = record { changes = [] }
+
+abbrev one_page : PageDrafted
+one_page = record { changes = (Block (id_of 2) 0, from_to None (Some (1, zeros))) ∷ [] }
+
+abbrev no_blocks : Paged
+no_blocks = record { pages = []; room = [] }
+
+blocks_kept : ArePagesSound no_blocks
+unfolding IsDistinct
+blocks_kept = record { once = tt; blocks = λ n h e. absurd (cc); empty = λ n e. absurd (cc); few = omega arith }
+
+pages_begin : (order : List ℕ) → PagesBegin order empty_table no_pages no_blocks
+pages_begin order = record { kept = blocks_kept; shows = λ n h e. absurd (cc); empty = λ n. refl }
+
+-- a draft with a page has begun already
+with_a_page : (order : List ℕ) → PagesBegin order empty_table one_page no_blocks → ⊥
+with_a_page order h = let e = h.empty (Block (id_of 2) 0) in absurd (cc)
+
+landed : IsLanded no_pages no_blocks no_blocks
+landed n = refl
+
+-- the page isn't there yet
+not_landed : IsLanded one_page no_blocks no_blocks → ⊥
+not_landed h = let e = h (Block (id_of 2) 0) in absurd (cc)
+
+pages_through : (order : List ℕ) → PagesGoThrough order empty_table (Mkdir (codes "/a")) no_pages no_blocks
+pages_through order = (rows_keep_pages order empty_table (Mkdir (codes "/a")) no_pages no_blocks sound_empty tt (pages_begin order)).0
+
+-- a new directory gives no block a page
+page_of_nothing : (order : List ℕ) → PagesGoThrough order empty_table (Mkdir (codes "/a")) one_page no_blocks → ⊥
+unfolding shown
+page_of_nothing order h =
+    let a = h.changes.changed (Block (id_of 2) 0) (from_to None (Some (1, zeros))) refl in
+    let b = rows_keep_blocks order empty_table (Mkdir (codes "/a")) sound_empty tt (id_of 2) 0 in
+    let e : None ≡ Some (Stored 1 zeros) = sym b ∙ a in absurd (cc)
+
+-- a write of a byte says something of the place that it touches
+written_silently : (old new : Shown) (f : File) (d : Drafted) (c : Resident) (b : Paged) → Filed old new (id_of 2) f d c → Shows new b → SaysPagesWritten (id_of 2) 0 (7 ∷ []) d c b no_pages no_pages → ⊥
+written_silently old new f d c b h s says = let e = says old new f h s (Block (id_of 2) 0) in absurd (cc)
+
+-- a file that is filled up needs no page
+filled_silently : (d : Drafted) (c : Resident) (b : Paged) → ((old new : Shown) (f : File) → Filed old new (id_of 2) f d c → nat_lt 4096 f.size ≡ false) → SaysPagesResized (id_of 2) 4096 d c b no_pages no_pages
+filled_silently d c b short old new f h s n = ap (λ a. cond (a && is_block_in (id_of 2) 1 (blocks_of f.size) n) (page_cut 4096 f (place_of n) None) None) (sym (short old new f h))
+
+-- one that loses a block says so
+cut_silently : (old new : Shown) (d : Drafted) (c : Resident) (b : Paged) → Filed old new (id_of 2) three d c → Shows new b → SaysPagesResized (id_of 2) 4096 d c b no_pages no_pages → ⊥
+cut_silently old new d c b h s says = let e = says old new three h s (Block (id_of 2) 2) in absurd (cc)

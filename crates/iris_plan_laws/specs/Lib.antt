@@ -6,3 +6,4 @@ pub mod Makes
 pub mod Moves
 pub mod FileChanges
 pub mod Replies
+pub mod PageChanges

@@ -4,6 +4,7 @@ ghost use Rattle.iris_plan_laws.specs.Blocks.{RowsKeepBlocks, WritesChangeBlocks
 ghost use Rattle.iris_plan_laws.specs.FileChanges.{BetweenIsSound, WritesGoThrough, ResizesGoThrough};
 ghost use Rattle.iris_plan_laws.specs.Makes.{MakesGoThrough};
 ghost use Rattle.iris_plan_laws.specs.Moves.{HandsAreHeld, NamesLeadOn, NoNameComes, MovesGoThrough};
+ghost use Rattle.iris_plan_laws.specs.PageChanges.{WritesChangePages, ResizesChangePages, RowsKeepPages};
 ghost use Rattle.iris_plan_laws.specs.Replies.{ListsAreReplies, StatsAreReplies};
 ghost use Rattle.iris_plan_laws.specs.Steps.{FilesAreRefiled, MakesAreRows};
 ghost use Rattle.iris_plan_laws.specs.Takes.{TakesAreRows, PutsAreRows};
@@ -61,6 +62,21 @@ pub fn writes_go_through()
 /// So does what it cuts or fills up.
 pub fn resizes_go_through()
     ensures { ResizesGoThrough }
+{}
+
+/// What is written goes through the resident blocks: the plan leaves a draft of pages that makes them show the next table.
+pub fn writes_change_pages()
+    ensures { WritesChangePages }
+{}
+
+/// So does what is cut or filled up.
+pub fn resizes_change_pages()
+    ensures { ResizesChangePages }
+{}
+
+/// So does what makes or moves rows, with no page drafted.
+pub fn rows_keep_pages()
+    ensures { RowsKeepPages }
 {}
 
 /// What the plans that read paths answer is the table's reply.
