@@ -1,15 +1,22 @@
 -- What the definitions hold of, and what near by they don't.
-use Rattle.std.proofs.Common.{◌≡◌, ℕ, ◌+◌, ◌<◌, ◌≤◌, List, [], ◌∷◌, Bool, true, false, ◌||◌, ◌&&◌, cond, Option, Some, None, refl, ◌∙◌, ap, arith, sym, subst}
-use Rattle.std.specs.Prelude.{◌==◌, codes, nat_lt}
+use Rattle.std.proofs.Common.{◌≡◌, ◌≢◌, inr, ℕ, ◌+◌, ◌<◌, ◌≤◌, List, [], ◌∷◌, Bool, true, false, ◌||◌, ◌&&◌, cond, Option, Some, None, refl, ◌∙◌, ap, arith, sym, subst}
+use Rattle.std.specs.Prelude.{◌==◌, codes, nat_lt, IsSomeAnd}
 use Rattle.std.specs.List.{IsDistinct}
 use Rattle.std.proofs.lemmas.Bool.Decides.{nat_tests}
 use Rattle.iris_name.specs.declared.name.FileId.{FileId}
+use Rattle.iris_name.specs.declared.name.Hash32.{Hash32}
+use Rattle.iris_name.specs.declared.name.Name.{Name}
 use Rattle.iris_name.specs.declared.name.Name.TheVariants.{Entry, Part, Block}
 use Rattle.iris_name.specs.declared.request.Request.TheVariants.{Mkdir, Create, Write, Rename}
 use Rattle.iris_name.specs.Paths.{names_of}
+use Rattle.sha2.specs.Sha256.{sha256}
+use Rattle.iris_node.specs.declared.node.Body.TheVariants.{Dir}
+use Rattle.iris_node.specs.declared.node.Link.{Link}
+use Rattle.iris_node.specs.declared.node.Node.TheVariants as node
 use Rattle.iris_node.specs.Trees.{Shown}
 use Rattle.iris_node.specs.Unfolded.{Unfolded, Stored, id_of}
 use Rattle.iris_rows.specs.Changes.{after_requests, stepped, row_moved}
+use Rattle.iris_records.specs.Records.{spelled}
 use Rattle.iris_records.specs.Shown.{shown}
 use Rattle.iris_rows.specs.Sound.{IsSound}
 use Rattle.iris_rows.specs.FileChanges.{is_touched}
@@ -23,11 +30,13 @@ use Rattle.iris_files.specs.Cuts.{page_cut}
 use Rattle.iris_files.specs.Pages.{is_block_in, place_of}
 use Rattle.iris_files.specs.Refiles.{Filed}
 use Rattle.iris_cache.specs.Resident.{Resident}
+use Rattle.iris_cache.specs.declared.held.Held.{Held}
 use Rattle.iris_cache.specs.Drafted.{Drafted, taken_away}
 use Rattle.iris_cache.specs.Pictures.{Pictures}
 use Rattle.iris_rows.proofs.SoundStep.{sound_kept, sound_empty}
 use Rattle.iris_plan_laws.specs.Begun.{IsAtFile, IsPictured, PlanBegins}
 use Rattle.iris_plan_laws.specs.Blocks.{SameBlocks, ChangesBlocks, AreAmong, is_cut_at, IsOfRows}
+use Rattle.iris_plan_laws.specs.Fetches.{IsLinkedAbsent, CollidesIn}
 use Rattle.iris_plan_laws.specs.FileChanges.{emptied_past}
 use Rattle.iris_plan_laws.specs.Makes.{making}
 use Rattle.iris_plan_laws.specs.PageChanges.{PagesBegin, PagesGoThrough, IsLanded, SaysPagesWritten, SaysPagesResized}
@@ -280,3 +289,45 @@ filled_silently d c b short old new f h s n = ap (λ a. cond (a && is_block_in (
 -- one that loses a block says so
 cut_silently : (old new : Shown) (d : Drafted) (c : Resident) (b : Paged) → Filed old new (id_of 2) three d c → Shows new b → SaysPagesResized (id_of 2) 4096 d c b no_pages no_pages → ⊥
 cut_silently old new d c b h s says = let e = says old new three h s (Block (id_of 2) 2) in absurd (cc)
+
+-- ---- a fetched node
+
+-- the visible root, resident, with a hash of directory 2, which is absent
+abbrev link_to_two : Link
+link_to_two = record { id = id_of 2; hash = record { 0 = 7 ∷ [] }; blocks = 0 }
+
+abbrev root_held : Held
+root_held = record {
+  parent = None;
+  node = node.Entry (record { id = id_of 0; name = []; left = None; right = None; body = Dir (Some link_to_two) });
+  pins = 0;
+  dirty = false;
+  settled = true;
+  out = None;
+  touched = false;
+  kids = 0;
+}
+
+abbrev one_node : Resident
+one_node = record { nodes = (Entry (id_of 0), root_held) ∷ []; room = [] }
+
+is_linked : IsLinkedAbsent one_node (Entry (id_of 0)) (Entry (id_of 2)) (record { 0 = 7 ∷ [] })
+is_linked = record { absent = refl; parent = root_held; resident = refl; holds = inr (inr (refl, refl)) }
+
+-- a resident node isn't absent, and a parent that is absent holds nothing
+resident_is_none : (p : Name) (x : Hash32) → IsLinkedAbsent one_node p (Entry (id_of 0)) x → ⊥
+resident_is_none p x h = let e = h.absent in absurd (cc)
+
+no_parent : (p n : Name) (x : Hash32) → IsLinkedAbsent no_nodes p n x → ⊥
+no_parent p n x h = let e = h.resident in absurd (cc)
+
+-- a record is no collision with itself, and nothing collides with a name that isn't live
+no_collision : (order key : List ℕ) (t : Table) (n : Name) (u : Unfolded) → shown order t n ≡ Some u → CollidesIn order key t n (spelled key n u) → ⊥
+no_collision order key t n u e h = (subst (λ o. IsSomeAnd o (λ w. (spelled key n u ≢ spelled key n w) × (sha256 (spelled key n u) ≡ sha256 (spelled key n w)))) e h).0 refl
+
+no_live_name : (order key : List ℕ) (t : Table) (n : Name) (bytes : List ℕ) → shown order t n ≡ None → CollidesIn order key t n bytes → ⊥
+no_live_name order key t n bytes e h = subst (λ o. IsSomeAnd o (λ u. (bytes ≢ spelled key n u) × (sha256 bytes ≡ sha256 (spelled key n u)))) e h
+
+-- other bytes of its hash are one
+a_collision : (order key : List ℕ) (t : Table) (n : Name) (u : Unfolded) (bytes : List ℕ) → shown order t n ≡ Some u → bytes ≢ spelled key n u → sha256 bytes ≡ sha256 (spelled key n u) → CollidesIn order key t n bytes
+a_collision order key t n u bytes e a b = subst (λ o. IsSomeAnd o (λ w. (bytes ≢ spelled key n w) × (sha256 bytes ≡ sha256 (spelled key n w)))) (sym e) (a, b)

@@ -6,6 +6,7 @@
 -- between_is_sound: CutBetween
 -- makes_go_through: MadeRow; moves_go_through: MovedRow; writes_go_through, resizes_go_through: ChangedFile; all over AcceptedRequests and Pictured
 -- reads_are_replies: RepliesOfPlans
+-- fetched_nodes_fit: FetchedNodes
 pub mod MappedShown
 pub mod FileById
 pub mod DirectoryById
@@ -23,4 +24,5 @@ pub mod BlocksOfRows
 pub mod BlocksOfSteps
 pub mod PagesOfSteps
 pub mod RepliesOfPlans
+pub mod FetchedNodes
 pub mod Examples

@@ -7,3 +7,4 @@ pub mod Moves
 pub mod FileChanges
 pub mod Replies
 pub mod PageChanges
+pub mod Fetches

@@ -1,6 +1,7 @@
 //! What a request makes of a table, in the words of the plans, and what goes through them.
 
 ghost use Rattle.iris_plan_laws.specs.Blocks.{RowsKeepBlocks, WritesChangeBlocks, ResizesChangeBlocks};
+ghost use Rattle.iris_plan_laws.specs.Fetches.{RecordsFit, FetchesFit, FetchesKeep};
 ghost use Rattle.iris_plan_laws.specs.FileChanges.{BetweenIsSound, WritesGoThrough, ResizesGoThrough};
 ghost use Rattle.iris_plan_laws.specs.Makes.{MakesGoThrough};
 ghost use Rattle.iris_plan_laws.specs.Moves.{HandsAreHeld, NamesLeadOn, NoNameComes, MovesGoThrough};
@@ -83,4 +84,12 @@ pub fn rows_keep_pages()
 pub fn reads_are_replies()
     ensures lists { ListsAreReplies }
     ensures stats { StatsAreReplies }
+{}
+
+/// A node whose record was fetched under the hash that its resident parent holds is the table's with its true hashes, unless
+/// SHA-256 collides, and goes into the cache below that parent.
+pub fn fetched_nodes_fit()
+    ensures records { RecordsFit }
+    ensures fetched { FetchesFit }
+    ensures inserted { FetchesKeep }
 {}
