@@ -14,7 +14,7 @@ use Rattle.iris_node.specs.declared.node.Body.TheVariants.{Dir}
 use Rattle.iris_node.specs.declared.node.Link.{Link}
 use Rattle.iris_node.specs.declared.node.Node.TheVariants as node
 use Rattle.iris_node.specs.Trees.{Shown}
-use Rattle.iris_node.specs.Unfolded.{Unfolded, Stored, id_of}
+use Rattle.iris_node.specs.Unfolded.{Unfolded, Even, Stored, id_of}
 use Rattle.iris_rows.specs.Changes.{after_requests, stepped, row_moved}
 use Rattle.iris_records.specs.Records.{spelled}
 use Rattle.iris_records.specs.Shown.{shown}
@@ -39,7 +39,7 @@ use Rattle.iris_plan_laws.specs.Blocks.{SameBlocks, ChangesBlocks, AreAmong, is_
 use Rattle.iris_plan_laws.specs.Fetches.{IsLinkedAbsent, CollidesIn}
 use Rattle.iris_plan_laws.specs.FileChanges.{emptied_past}
 use Rattle.iris_plan_laws.specs.Makes.{making}
-use Rattle.iris_plan_laws.specs.PageChanges.{PagesBegin, PagesGoThrough, IsLanded, SaysPagesWritten, SaysPagesResized}
+use Rattle.iris_plan_laws.specs.PageChanges.{PagesBegin, PagesGoThrough, IsLanded, page_shown, SaysPagesWritten, SaysPagesResized}
 use Rattle.iris_plan_laws.specs.Moves.{in_hand, left_below}
 use Rattle.iris_plan_laws.specs.Steps.{IsEmptyContent}
 use Rattle.iris_plan_laws.specs.Takes.{TakesOut, PutsIn}
@@ -277,6 +277,10 @@ page_of_nothing order h =
     let a = h.changes.changed (Block (id_of 2) 0) (from_to None (Some (1, zeros))) refl in
     let b = rows_keep_blocks order empty_table (Mkdir (codes "/a")) sound_empty tt (id_of 2) 0 in
     let e : None ≡ Some (Stored 1 zeros) = sym b ∙ a in absurd (cc)
+
+-- what is no block has no page, nor has a hole
+pages_shown : (page_shown (Some (Stored 1 zeros)) ≡ Some zeros) × (page_shown (Some (Even 1)) ≡ None) × (page_shown None ≡ None)
+pages_shown = (refl, refl, refl)
 
 -- a write of a byte says something of the place that it touches
 written_silently : (old new : Shown) (f : File) (d : Drafted) (c : Resident) (b : Paged) → Filed old new (id_of 2) f d c → Shows new b → SaysPagesWritten (id_of 2) 0 (7 ∷ []) d c b no_pages no_pages → ⊥

@@ -13,7 +13,7 @@ use Rattle.iris_node.specs.Unfolded.{Unfolded, Stored, id_of}
 use Rattle.iris_blocks.specs.declared.draft.PageChange.{PageChange}
 use Rattle.iris_blocks.specs.Changes.{PageDrafted, change_of, landed_page, from_to}
 use Rattle.iris_blocks.specs.Laws.{ChangesTo, stored_block}
-use Rattle.iris_blocks.specs.Paged.{Paged, IsBlock, held_page}
+use Rattle.iris_blocks.specs.Paged.{Paged, IsBlock, Shows, held_page}
 use Rattle.iris_blocks.proofs.Showing.{apply_shows}
 use Rattle.iris_plain.specs.Checks.{blocks_of}
 use Rattle.iris_rows.specs.Changes.{filed, stepped}
@@ -24,10 +24,10 @@ use Rattle.iris_rows.specs.Sound.{IsSound, IsCounted}
 use Rattle.iris_rows.proofs.SoundStep.{sound_kept}
 use Rattle.iris_records.specs.Shown.{block_of_place, shown}
 use Rattle.iris_files.specs.Cuts.{page_cut}
-use Rattle.iris_files.specs.Pages.{is_block_in, page_written, place_of}
+use Rattle.iris_files.specs.Pages.{is_block_in, page_in, page_written, place_of}
 use Rattle.iris_forest.proofs.VersionsOfFile.{blocks_stand, file_counted}
 use Rattle.iris_plan_laws.specs.Blocks.{SameBlocks, ChangesBlocks, is_cut_at}
-use Rattle.iris_plan_laws.specs.PageChanges.{PagesBegin, PagesGoThrough, WritesChangePages, ResizesChangePages, RowsKeepPages}
+use Rattle.iris_plan_laws.specs.PageChanges.{PagesBegin, PagesGoThrough, IsLanded, page_shown, WritesChangePages, ResizesChangePages, RowsKeepPages}
 use Rattle.iris_plan_laws.proofs.AcceptedRequests.{written_step, resized_step}
 use Rattle.iris_plan_laws.proofs.BlocksOfRows.{rows_keep_blocks}
 use Rattle.iris_plan_laws.proofs.BlocksOfSteps.{writes_change_blocks, resizes_change_blocks, block_in, block_cut, cut_ways, stood}
@@ -42,39 +42,41 @@ at_block file after (Entry id) = None
 at_block file after (Part g level index) = None
 at_block file after (Block g p) = cond (g.0 == file.0) (after p) None
 
-module _ (t u : Shown) (i : ℕ) (picks : ℕ → Bool) (after : ℕ → Option PageChange) (q : PageDrafted) (is : (n : Name) → change_of q n ≡ at_block (id_of i) after n) where
-  -- what it says of each place stands, and a place of which it says nothing isn't picked
-  at_places : ChangesBlocks t u (id_of i) picks → ((p : ℕ) (x : PageChange) → after p ≡ Some x → u (Block (id_of i) p) ≡ stored_block x.new) → ((p : ℕ) → after p ≡ None → picks p ≡ false) → ChangesTo t u q
-  at_places c says rest = record { changed = changed; others = others } where
-    changed : (n : Name) (x : PageChange) → change_of q n ≡ Some x → u n ≡ stored_block x.new
-    changed (Entry id) x h = absurd (let e = is (Entry id) in cc)
-    changed (Part g l j) x h = absurd (let e = is (Part g l j) in cc)
-    changed (Block g p) x h = by (g.0 == i) refl (sym (is (Block g p)) ∙ h) where
-      by : (b : Bool) → (g.0 == i) ≡ b → cond b (after p) None ≡ Some x → u (Block g p) ≡ stored_block x.new
-      by true k e = subst (λ z. u (Block z p) ≡ stored_block x.new) (sym (ap id_of (eqb-true g.0 i k))) (says p x e)
-      by false k e = absurd (cc)
-
-    others : (n : Name) → IsBlock n → change_of q n ≡ None → u n ≡ t n
-    others (Entry id) k h = absurd k
-    others (Part g l j) k h = absurd k
-    others (Block g p) k h = by (g.0 == i) refl (sym (is (Block g p)) ∙ h) where
-      by : (b : Bool) → (g.0 == i) ≡ b → cond b (after p) None ≡ None → u (Block g p) ≡ t (Block g p)
-      by true k e = subst (λ z. u (Block z p) ≡ t (Block z p)) (sym (ap id_of (eqb-true g.0 i k))) (c.kept p (rest p e))
-      by false k e = c.others g p (λ s. (let w = eq-eqb g.0 i (ap (λ (z : FileId). z.0) s) in absurd (cc)))
-
-  -- it says nothing of a place that isn't picked
-  at_differing : ChangesBlocks t u (id_of i) picks → ((p : ℕ) (x : PageChange) → after p ≡ Some x → picks p ≡ true) → (n : Name) (x : PageChange) → change_of q n ≡ Some x → u n ≢ t n
-  at_differing c picked (Entry id) x h = absurd (let e = is (Entry id) in cc)
-  at_differing c picked (Part g l j) x h = absurd (let e = is (Part g l j) in cc)
-  at_differing c picked (Block g p) x h = by (g.0 == i) refl (sym (is (Block g p)) ∙ h) where
-    by : (b : Bool) → (g.0 == i) ≡ b → cond b (after p) None ≡ Some x → u (Block g p) ≢ t (Block g p)
-    by true k e = subst (λ z. u (Block z p) ≢ t (Block z p)) (sym (ap id_of (eqb-true g.0 i k))) (c.changed p (picked p x e))
+module _ (i : ℕ) (after : ℕ → Option PageChange) (q : PageDrafted) (is : (n : Name) → change_of q n ≡ at_block (id_of i) after n) where
+  -- what holds of each change at a place holds of each change
+  at_names : (P : Name → PageChange → Type 0) → ((p : ℕ) (x : PageChange) → after p ≡ Some x → P (Block (id_of i) p) x) → (n : Name) (x : PageChange) → change_of q n ≡ Some x → P n x
+  at_names P says (Entry id) x h = absurd (let e = is (Entry id) in cc)
+  at_names P says (Part g l j) x h = absurd (let e = is (Part g l j) in cc)
+  at_names P says (Block g p) x h = by (g.0 == i) refl (sym (is (Block g p)) ∙ h) where
+    by : (b : Bool) → (g.0 == i) ≡ b → cond b (after p) None ≡ Some x → P (Block g p) x
+    by true k e = subst (λ z. P (Block z p) x) (sym (ap id_of (eqb-true g.0 i k))) (says p x e)
     by false k e = absurd (cc)
 
--- the resident blocks go through with it
-go_through : (order : List ℕ) (t : Table) (request : Request) (p q : PageDrafted) (b : Paged) → PagesBegin order t p b → ChangesTo (shown order t) (shown order (stepped t request)) q
-    → ((n : Name) (x : PageChange) → change_of q n ≡ Some x → shown order (stepped t request) n ≢ shown order t n) → PagesGoThrough order t request q b
-go_through order t request p q b begin c differs = record { changes = c; differs = differs; shows = λ e l. apply_shows (shown order t) (shown order (stepped t request)) q b e begin.shows begin.kept c l }
+  -- a name of which it says nothing stays, where it says something of each place that is picked
+  at_others : (t u : Shown) (picks : ℕ → Bool) → ChangesBlocks t u (id_of i) picks → ((p : ℕ) → after p ≡ None → picks p ≡ false) → (n : Name) → IsBlock n → change_of q n ≡ None → u n ≡ t n
+  at_others t u picks c rest (Entry id) k h = absurd k
+  at_others t u picks c rest (Part g l j) k h = absurd k
+  at_others t u picks c rest (Block g p) k h = by (g.0 == i) refl (sym (is (Block g p)) ∙ h) where
+    by : (b : Bool) → (g.0 == i) ≡ b → cond b (after p) None ≡ None → u (Block g p) ≡ t (Block g p)
+    by true k e = subst (λ z. u (Block z p) ≡ t (Block z p)) (sym (ap id_of (eqb-true g.0 i k))) (c.kept p (rest p e))
+    by false k e = c.others g p (λ s. (let w = eq-eqb g.0 i (ap (λ (z : FileId). z.0) s) in absurd (cc)))
+
+  -- The resident blocks go through with it: at each place its change says what the place becomes, what it was, and that it is picked.
+  at_places : (order : List ℕ) (t : Table) (request : Request) (p : PageDrafted) (b : Paged) (f : File) (picks : ℕ → Bool) → PagesBegin order t p b → ChangesBlocks (shown order t) (shown order (stepped t request)) (id_of i) picks
+      → ((k : ℕ) → shown order t (Block (id_of i) k) ≡ block_of_place k f) → ((k : ℕ) (x : PageChange) → after k ≡ Some x → shown order (stepped t request) (Block (id_of i) k) ≡ stored_block x.new)
+      → ((k : ℕ) (x : PageChange) → after k ≡ Some x → x.old ≡ page_in k f) → ((k : ℕ) (x : PageChange) → after k ≡ Some x → picks k ≡ true) → ((k : ℕ) → after k ≡ None → picks k ≡ false) → PagesGoThrough order t request q b
+  at_places order t request p b f picks begin c stands says old picked rest = let u = shown order (stepped t request) in
+      let changes : ChangesTo (shown order t) u q = record { changed = at_names (λ n x. u n ≡ stored_block x.new) says; others = at_others (shown order t) u picks c rest } in
+      record {
+        changes = changes;
+        differs = at_names (λ n x. u n ≢ shown order t n) (λ k x h. c.changed k (picked k x h));
+        was = at_names (λ n x. x.old ≡ page_shown (shown order t n)) (λ k x h. old k x h ∙ page_same (f.version k == 0) (f.version k) (f.block k) ∙ ap page_shown (sym (stands k)));
+        shows = λ e l. apply_shows (shown order t) u q b e begin.shows begin.kept changes l;
+      }
+    where
+      page_same : (z : Bool) (v : ℕ) (page : List ℕ) → cond z None (Some page) ≡ page_shown (cond z None (Some (Stored v page)))
+      page_same true v page = refl
+      page_same false v page = refl
 
 -- a place of a range
 abbrev in_range : ℕ → ℕ → ℕ → Bool
@@ -111,18 +113,11 @@ written_block : (offset : ℕ) (bytes : List ℕ) (f : File) (p : ℕ) → is_to
 written_block offset bytes f p e =
     ap (λ (b : Bool). block_in (cond b (f.counter + 1) (f.version p)) (cond b (merged offset bytes p (f.block p)) (f.block p))) e ∙ numbered f.counter (merged offset bytes p (f.block p))
 
-written_says : (offset : ℕ) (bytes : List ℕ) (f : File) (p : ℕ) (x : PageChange) → written_at offset bytes f p ≡ Some x → block_of_place p (file_written offset bytes f) ≡ stored_block x.new
-written_says offset bytes f p x e = by (in_range (offset / 4096) ((offset + length bytes - 1) / 4096 + 1) p) refl e where
-  by : (b : Bool) → in_range (offset / 4096) ((offset + length bytes - 1) / 4096 + 1) p ≡ b → cond b (Some (page_written offset bytes f p)) None ≡ Some x → block_of_place p (file_written offset bytes f) ≡ stored_block x.new
-  by true k h =
-      let z : page_written offset bytes f p ≡ x = cc in
-      written_block offset bytes f p (sym (in_touched (offset / 4096) ((offset + length bytes - 1) / 4096) p) ∙ k) ∙ ap (λ (y : PageChange). stored_block y.new) z
-  by false k h = absurd (cc)
-
-written_picked : (offset : ℕ) (bytes : List ℕ) (f : File) (p : ℕ) (x : PageChange) → written_at offset bytes f p ≡ Some x → is_touched offset (length bytes) p ≡ true
-written_picked offset bytes f p x e = by (in_range (offset / 4096) ((offset + length bytes - 1) / 4096 + 1) p) refl e where
-  by : (b : Bool) → in_range (offset / 4096) ((offset + length bytes - 1) / 4096 + 1) p ≡ b → cond b (Some (page_written offset bytes f p)) None ≡ Some x → is_touched offset (length bytes) p ≡ true
-  by true k h = sym (in_touched (offset / 4096) ((offset + length bytes - 1) / 4096) p) ∙ k
+-- a change is of a place that it touches
+written_of : (offset : ℕ) (bytes : List ℕ) (f : File) (p : ℕ) (x : PageChange) → written_at offset bytes f p ≡ Some x → (is_touched offset (length bytes) p ≡ true) × (page_written offset bytes f p ≡ x)
+written_of offset bytes f p x e = by (in_range (offset / 4096) ((offset + length bytes - 1) / 4096 + 1) p) refl e where
+  by : (b : Bool) → in_range (offset / 4096) ((offset + length bytes - 1) / 4096 + 1) p ≡ b → cond b (Some (page_written offset bytes f p)) None ≡ Some x → (is_touched offset (length bytes) p ≡ true) × (page_written offset bytes f p ≡ x)
+  by true k h = (sym (in_touched (offset / 4096) ((offset + length bytes - 1) / 4096) p) ∙ k, cc)
   by false k h = absurd (cc)
 
 written_rest : (offset : ℕ) (bytes : List ℕ) (f : File) (p : ℕ) → written_at offset bytes f p ≡ None → is_touched offset (length bytes) p ≡ false
@@ -140,12 +135,11 @@ writes_change_pages order t path offset bytes i f d c b p q begun begin a some s
     let drawn = says (shown order t) (shown order t) f (pictured_file order t i f d c begun.pictured at.was) begin.shows in
     let w = writes_change_blocks order t path offset bytes i f s begun.accepted a some in
     let is = written_is (id_of i) offset bytes f p q begin.empty drawn in
-    let u = shown order (stepped t (Write path offset bytes)) in
-    go_through order t (Write path offset bytes) p q b begin
-    (at_places (shown order t) u i (is_touched offset (length bytes)) (written_at offset bytes f) q is w.0
-    (λ k x h. ap (λ v. shown order v (Block (id_of i) k)) e ∙ blocks_stand order (filed (file_written offset bytes) a.names t) i k (file_written offset bytes f) sound at.is ∙ written_says offset bytes f k x h)
-    (λ k h. written_rest offset bytes f k h))
-    (at_differing (shown order t) u i (is_touched offset (length bytes)) (written_at offset bytes f) q is w.0 (written_picked offset bytes f))
+    at_places i (written_at offset bytes f) q is order t (Write path offset bytes) p b f (is_touched offset (length bytes)) begin w.0 (λ k. blocks_stand order t i k f s at.was)
+    (λ k x h. (let o = written_of offset bytes f k x h in
+    ap (λ v. shown order v (Block (id_of i) k)) e ∙ blocks_stand order (filed (file_written offset bytes) a.names t) i k (file_written offset bytes f) sound at.is
+    ∙ written_block offset bytes f k o.0 ∙ ap (λ (y : PageChange). stored_block y.new) o.1))
+    (λ k x h. ap (λ (y : PageChange). y.old) (sym (written_of offset bytes f k x h).1)) (λ k x h. (written_of offset bytes f k x h).0) (λ k h. written_rest offset bytes f k h)
 
 -- ---- another length
 
@@ -199,12 +193,11 @@ module _ (size : ℕ) (f : File) where
     abbrev drafted_page : Bool → Bool → Option PageChange
     drafted_page z lost = cond z None (Some (from_to (Some (f.block p)) (cond lost None (Some (f.counter + 1, cut_page (size - p * 4096) (f.block p))))))
 
-    cut_new : (x : PageChange) → size < f.size → size / 4096 ≤ p → (z : Bool) → (f.version p == 0) ≡ z → (lost : Bool) → nat_le size (p * 4096) ≡ lost → drafted_page z lost ≡ Some x → block_of_place p (cut size f) ≡ stored_block x.new
-    cut_new x less from true z lost l e = absurd (cc)
-    cut_new x less from false z true l e =
+    cut_new : (x : PageChange) → size < f.size → size / 4096 ≤ p → (f.version p == 0) ≡ false → (lost : Bool) → nat_le size (p * 4096) ≡ lost → drafted_page false lost ≡ Some x → block_of_place p (cut size f) ≡ stored_block x.new
+    cut_new x less from z true l e =
         let y : from_to (Some (f.block p)) None ≡ x = cc in let h : size ≤ p * 4096 = grind (arith, nat_tests) in
         lost_block (omega (arith, h)) ∙ ap (λ (y : PageChange). stored_block y.new) y
-    cut_new x less from false z false l e =
+    cut_new x less from z false l e =
         let y : from_to (Some (f.block p)) (Some (f.counter + 1, cut_page (size - p * 4096) (f.block p))) ≡ x = cc in let h : p * 4096 < size = grind (arith, nat_tests) in
         split_block h less (omega (arith, h, from)) z ∙ ap (λ (y : PageChange). stored_block y.new) y
 
@@ -215,25 +208,28 @@ module _ (size : ℕ) (f : File) where
         let h : p < blocks_of size = grind (arith, nat_tests) in let e : p ≡ size / 4096 = omega (arith, h, from) in let b : nat_lt size f.size ≡ true = grind (arith, nat_tests) in
         ap (λ b. not b && (nat_le (blocks_of size) p || is_split size f.size p)) z ∙ ap (λ b. b || is_split size f.size p) l ∙ ap (λ x. x && (p == size / 4096)) b ∙ eq-eqb p (size / 4096) e
 
-    cut_drawn : (x : PageChange) → size < f.size → size / 4096 ≤ p → (z : Bool) → (f.version p == 0) ≡ z → drafted_page z (nat_le size (p * 4096)) ≡ Some x → is_cut_at size f p ≡ true
-    cut_drawn x less from true z e = absurd (cc)
-    cut_drawn x less from false z e = cut_tests (nat_le (blocks_of size) p) refl less from z
+    -- a change is of a place of the range that was no hole
+    cut_of : (x : PageChange) → cut_at p ≡ Some x → (size < f.size) × (size / 4096 ≤ p) × ((f.version p == 0) ≡ false) × (drafted_page false (nat_le size (p * 4096)) ≡ Some x)
+    cut_of x e = by (nat_lt size f.size) refl (nat_lt p (size / 4096)) refl (nat_lt p (blocks_of f.size)) (f.version p == 0) refl e where
+      by : (a : Bool) → nat_lt size f.size ≡ a → (b : Bool) → nat_lt p (size / 4096) ≡ b → (c : Bool) (z : Bool) → (f.version p == 0) ≡ z → cond (a && (not b && c)) (drafted_page z (nat_le size (p * 4096))) None ≡ Some x
+          → (size < f.size) × (size / 4096 ≤ p) × ((f.version p == 0) ≡ false) × (drafted_page false (nat_le size (p * 4096)) ≡ Some x)
+      by true k false l true false z h = (grind (arith, nat_tests), grind (arith, nat_tests), z, h)
+      by true k false l true true z h = absurd (cc)
+      by true k false l false v z h = absurd (cc)
+      by true k true l c v z h = absurd (cc)
+      by false k b l c v z h = absurd (cc)
 
     cut_picked : (x : PageChange) → cut_at p ≡ Some x → is_cut_at size f p ≡ true
-    cut_picked x e = by (nat_lt size f.size) refl (nat_lt p (size / 4096)) refl (nat_lt p (blocks_of f.size)) e where
-      by : (a : Bool) → nat_lt size f.size ≡ a → (b : Bool) → nat_lt p (size / 4096) ≡ b → (c : Bool) → cond (a && (not b && c)) (page_cut size f p None) None ≡ Some x → is_cut_at size f p ≡ true
-      by true k false l true h = cut_drawn x (let g : size < f.size = grind (arith, nat_tests) in g) (let g : size / 4096 ≤ p = grind (arith, nat_tests) in g) (f.version p == 0) refl h
-      by true k false l false h = absurd (cc)
-      by true k true l c h = absurd (cc)
-      by false k b l c h = absurd (cc)
+    cut_picked x e = let o = cut_of x e in cut_tests (nat_le (blocks_of size) p) refl o.0 o.1 o.2
 
     cut_says : (x : PageChange) → cut_at p ≡ Some x → block_of_place p (cut size f) ≡ stored_block x.new
-    cut_says x e = by (nat_lt size f.size) refl (nat_lt p (size / 4096)) refl (nat_lt p (blocks_of f.size)) e where
-      by : (a : Bool) → nat_lt size f.size ≡ a → (b : Bool) → nat_lt p (size / 4096) ≡ b → (c : Bool) → cond (a && (not b && c)) (page_cut size f p None) None ≡ Some x → block_of_place p (cut size f) ≡ stored_block x.new
-      by true k false l true h = cut_new x (let g : size < f.size = grind (arith, nat_tests) in g) (let g : size / 4096 ≤ p = grind (arith, nat_tests) in g) (f.version p == 0) refl (nat_le size (p * 4096)) refl h
-      by true k false l false h = absurd (cc)
-      by true k true l c h = absurd (cc)
-      by false k b l c h = absurd (cc)
+    cut_says x e = let o = cut_of x e in cut_new x o.0 o.1 o.2 (nat_le size (p * 4096)) refl o.3
+
+    cut_old : (x : PageChange) → cut_at p ≡ Some x → x.old ≡ page_in p f
+    cut_old x e = let o = cut_of x e in old_of (nat_le size (p * 4096)) o.3 ∙ ap (λ z. cond z None (Some (f.block p))) (sym o.2) where
+      old_of : (lost : Bool) → drafted_page false lost ≡ Some x → x.old ≡ Some (f.block p)
+      old_of true h = let y : from_to (Some (f.block p)) None ≡ x = cc in ap (λ (y : PageChange). y.old) (sym y)
+      old_of false h = let y : from_to (Some (f.block p)) (Some (f.counter + 1, cut_page (size - p * 4096) (f.block p))) ≡ x = cc in ap (λ (y : PageChange). y.old) (sym y)
 
     -- of a place that is cut it says something
     cut_drafted : (age : ℕ) → IsCounted age f → is_cut_at size f p ≡ true → cut_at p ≡ None → ⊥
@@ -261,11 +257,8 @@ resizes_change_pages order t path size i f d c b p q begun begin a some says =
     let drawn = says (shown order t) (shown order t) f (pictured_file order t i f d c begun.pictured at.was) begin.shows in
     let w = resizes_change_blocks order t path size i f s begun.accepted a some in
     let is = cut_is size f (id_of i) p q begin.empty drawn in
-    let u = shown order (stepped t (Resize path size)) in
-    go_through order t (Resize path size) p q b begin
-    (at_places (shown order t) u i (is_cut_at size f) (cut_at size f) q is w.0 (λ k x h. new k x h (cases_eq f.size size))
-    (λ k h. cut_rest size f k t.age (file_counted t i f s at.was) h))
-    (at_differing (shown order t) u i (is_cut_at size f) (cut_at size f) q is w.0 (cut_picked size f))
+    at_places i (cut_at size f) q is order t (Resize path size) p b f (is_cut_at size f) begin w.0 (λ k. blocks_stand order t i k f s at.was) (λ k x h. new k x h (cases_eq f.size size)) (cut_old size f) (cut_picked size f)
+    (λ k h. cut_rest size f k t.age (file_counted t i f s at.was) h)
   where
     -- nothing is drafted where the length stays
     unsized : (k : ℕ) (x : PageChange) → f.size ≡ size → cut_at size f k ≡ Some x → ⊥
@@ -283,9 +276,11 @@ resizes_change_pages order t path size i f d c b p q begun begin a some says =
 
 pub rows_keep_pages : RowsKeepPages
 rows_keep_pages order t request p b s o begin =
-    let same = rows_keep_blocks order t request s o in
-    let g = go_through order t request p p b begin (record { changed = λ n x h. absurd (let e = begin.empty n in cc); others = λ n k h. kept same n k }) (λ n x h. absurd (let e = begin.empty n in cc)) in
-    (g, g.shows b (λ n. sym (ap (λ x. landed_page x (held_page b n)) (begin.empty n)))) where
+    let same = rows_keep_blocks order t request s o in let u = shown order (stepped t request) in
+    let none : (n : Name) (x : PageChange) → change_of p n ≡ Some x → ⊥ = λ n x h. absurd (let e = begin.empty n in cc) in
+    let changes : ChangesTo (shown order t) u p = record { changed = λ n x h. absurd (none n x h); others = λ n k h. kept same n k } in
+    let shows : (e : Paged) → IsLanded p b e → Shows u e = λ e l. apply_shows (shown order t) u p b e begin.shows begin.kept changes l in
+    (record { changes = changes; differs = λ n x h. absurd (none n x h); was = λ n x h. absurd (none n x h); shows = shows }, shows b (λ n. sym (ap (λ x. landed_page x (held_page b n)) (begin.empty n)))) where
       kept : SameBlocks (shown order t) (shown order (stepped t request)) → (n : Name) → IsBlock n → shown order (stepped t request) n ≡ shown order t n
       kept same (Entry id) k = absurd k
       kept same (Part g l j) k = absurd k

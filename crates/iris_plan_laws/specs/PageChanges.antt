@@ -1,11 +1,11 @@
 -- The resident blocks go through a request: what it makes of them is what its plan leaves in a draft of pages.
-use Rattle.std.specs.Prelude.{◌≡◌, ◌≢◌, ◌&&◌, ◌+◌, ◌-◌, ◌/◌, ◌<◌, ℕ, List, length, Some, None, cond, nat_lt}
+use Rattle.std.specs.Prelude.{◌≡◌, ◌≢◌, ◌&&◌, ◌+◌, ◌-◌, ◌/◌, ◌<◌, ℕ, List, length, Option, Some, None, cond, nat_lt}
 use Rattle.iris_name.specs.declared.name.FileId.{FileId}
 use Rattle.iris_name.specs.declared.name.Name.{Name}
 use Rattle.iris_name.specs.declared.request.Request.{Request}
 use Rattle.iris_name.specs.declared.request.Request.TheVariants.{Write, Resize}
 use Rattle.iris_node.specs.Trees.{Shown}
-use Rattle.iris_node.specs.Unfolded.{id_of}
+use Rattle.iris_node.specs.Unfolded.{Unfolded, Stored, id_of}
 use Rattle.iris_cache.specs.Drafted.{Drafted}
 use Rattle.iris_cache.specs.Resident.{Resident}
 use Rattle.iris_blocks.specs.declared.draft.PageChange.{PageChange}
@@ -33,10 +33,16 @@ pub record PagesBegin (order : List ℕ) (t : Table) (p : PageDrafted) (b : Page
 abbrev pub IsLanded : PageDrafted → Paged → Paged → Type 0
 IsLanded p b e = (n : Name) → held_page e n ≡ landed_page (change_of p n) (held_page b n)
 
--- The draft of pages changes the blocks that the request changes, and none besides. Once it is made, the resident blocks show the table after the request.
+-- the page of what stands for a block, none where it is a hole
+abbrev pub page_shown : Option Unfolded → Option (List ℕ)
+page_shown (Some (Stored version page)) = Some page
+page_shown _ = None
+
+-- The draft of pages changes the blocks that the request changes, and none besides, and tells the page that each was. Once it is made, the resident blocks show the table after the request.
 pub record PagesGoThrough (order : List ℕ) (t : Table) (request : Request) (p : PageDrafted) (b : Paged) : Type 0 where
   pub changes : ChangesTo (shown order t) (shown order (stepped t request)) p
   pub differs : (n : Name) (change : PageChange) → change_of p n ≡ Some change → shown order (stepped t request) n ≢ shown order t n
+  pub was : (n : Name) (change : PageChange) → change_of p n ≡ Some change → change.old ≡ page_shown (shown order t n)
   pub shows : (e : Paged) → IsLanded p b e → Shows (shown order (stepped t request)) e
 
 -- what the plan that writes says of the draft of pages at its end
