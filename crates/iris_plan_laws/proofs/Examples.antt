@@ -1,7 +1,8 @@
 -- What the definitions hold of, and what near by they don't.
 use Rattle.std.proofs.Common.{◌≡◌, ◌≢◌, inr, ℕ, ◌+◌, ◌<◌, ◌≤◌, List, [], ◌∷◌, Bool, true, false, ◌||◌, ◌&&◌, cond, Option, Some, None, refl, ◌∙◌, ap, arith, sym, subst}
-use Rattle.std.specs.Prelude.{◌==◌, codes, nat_lt, IsSomeAnd}
+use Rattle.std.specs.Prelude.{◌==◌, codes, nat_lt, not, IsSomeAnd}
 use Rattle.std.specs.List.{IsDistinct}
+use Rattle.std.proofs.lemmas.Bool.{eqb-true}
 use Rattle.std.proofs.lemmas.Bool.Decides.{nat_tests}
 use Rattle.iris_name.specs.declared.name.FileId.{FileId}
 use Rattle.iris_name.specs.declared.name.Hash32.{Hash32}
@@ -23,11 +24,12 @@ use Rattle.iris_rows.specs.FileChanges.{is_touched}
 use Rattle.iris_rows.specs.Rows.{File, Rows, End, Row, Table, Taken, Found, Here, root_row, met, empty_table, empty_file, zeros}
 use Rattle.iris_shape.specs.FoldLaws.{with_range_set}
 use Rattle.iris_forest.proofs.Ids.{taken_eq}
+use Rattle.iris_blocks.specs.declared.draft.PageChange.{PageChange}
 use Rattle.iris_blocks.specs.Changes.{PageDrafted, from_to}
 use Rattle.iris_blocks.specs.Paged.{Paged, ArePagesSound, Shows}
 use Rattle.iris_plain.specs.Checks.{blocks_of}
 use Rattle.iris_files.specs.Cuts.{page_cut}
-use Rattle.iris_files.specs.Pages.{is_block_in, place_of}
+use Rattle.iris_files.specs.Pages.{is_block_in, page_written, place_of}
 use Rattle.iris_files.specs.Refiles.{Filed}
 use Rattle.iris_cache.specs.Resident.{Resident}
 use Rattle.iris_cache.specs.declared.held.Held.{Held}
@@ -282,7 +284,24 @@ page_of_nothing order h =
 pages_shown : (page_shown (Some (Stored 1 zeros)) ≡ Some zeros) × (page_shown (Some (Even 1)) ≡ None) × (page_shown None ≡ None)
 pages_shown = (refl, refl, refl)
 
--- a write of a byte says something of the place that it touches
+-- a write of a byte at the start of a file changes its first page
+abbrev first_written : File → ℕ → Option PageChange
+first_written f p = Some (page_written 0 (7 ∷ []) f p)
+
+written_so : (d : Drafted) (c : Resident) (b : Paged) → ((old new : Shown) (f : File) → Filed old new (id_of 2) f d c → f ≡ three)
+    → SaysPagesWritten (id_of 2) 0 (7 ∷ []) d c b no_pages (record { changes = (Block (id_of 2) 0, page_written 0 (7 ∷ []) three 0) ∷ [] })
+written_so d c b one old new f h s (Entry id) = refl
+written_so d c b one old new f h s (Part g l j) = refl
+written_so d c b one old new f h s (Block g p) = by (g.0 == 2) (p == 0) refl ∙ ap (λ r. cond ((g.0 == 2) && r) (first_written f p) None) (at_start p) where
+  at_start : (p : ℕ) → (p == 0) ≡ (not (nat_lt p 0) && nat_lt p 1)
+  at_start p = let a : nat_lt p 0 ≡ false = grind (arith, nat_tests) in let k : nat_lt p 1 ≡ (p == 0) = grind (arith, nat_tests) in cc
+
+  by : (a z : Bool) → (p == 0) ≡ z → cond (a && z) (first_written three 0) None ≡ cond (a && z) (first_written f p) None
+  by true true e = ap (first_written three) (sym (eqb-true p 0 e)) ∙ ap (λ k. first_written k p) (sym (one old new f h))
+  by true false e = refl
+  by false z e = refl
+
+-- it says something of the place that it touches
 written_silently : (old new : Shown) (f : File) (d : Drafted) (c : Resident) (b : Paged) → Filed old new (id_of 2) f d c → Shows new b → SaysPagesWritten (id_of 2) 0 (7 ∷ []) d c b no_pages no_pages → ⊥
 written_silently old new f d c b h s says = let e = says old new f h s (Block (id_of 2) 0) in absurd (cc)
 
