@@ -35,7 +35,7 @@ filed_changes order t change names i f inside picks s v e same differs =
     }
 
 -- a block of a version above another's differs from it
-abbrev block_in : ℕ → List ℕ → Option Unfolded
+abbrev pub block_in : ℕ → List ℕ → Option Unfolded
 block_in v x = cond (v == 0) None (Some (Stored v x))
 
 later_differs : (v w c : ℕ) (x y : List ℕ) → v ≡ c + 1 → w ≤ c → block_in v x ≡ block_in w y → ⊥
@@ -76,7 +76,7 @@ writes_change_blocks order t path offset bytes i f s v a some =
 -- ---- another length
 
 -- the block of a place by the tests of a cut: it was a hole, it is lost, it is split
-abbrev block_cut : Bool → Bool → Bool → ℕ → ℕ → List ℕ → List ℕ → Option Unfolded
+abbrev pub block_cut : Bool → Bool → Bool → ℕ → ℕ → List ℕ → List ℕ → Option Unfolded
 block_cut z lost split v k x y = block_in (cond lost 0 (cond (split && not z) k v)) (cond lost zeros (cond split x y))
 
 cut_same : (z lost split : Bool) (v k : ℕ) (x y : List ℕ) → (v == 0) ≡ z → not z && (lost || split) ≡ false → block_cut z lost split v k x y ≡ block_in v y
@@ -103,7 +103,7 @@ module _ (size : ℕ) (f : File) where
       cut_differs (f.version p == 0) (nat_le (blocks_of size) p) (is_split size f.size p) (f.version p) f.counter (take (size % 4096) (f.block p) ++ replicate (4096 - size % 4096) 0) (f.block p) refl (c.version p) h
 
   -- the two ways to be cut
-  cut_ways : (p : ℕ) → is_cut_at size f p ≡ true → (f.version p ≢ 0) × ((blocks_of size ≤ p) ⊎ ((size < f.size) × (p ≡ size / 4096)))
+  pub cut_ways : (p : ℕ) → is_cut_at size f p ≡ true → (f.version p ≢ 0) × ((blocks_of size ≤ p) ⊎ ((size < f.size) × (p ≡ size / 4096)))
   cut_ways p e =
       let b = and_parts (not (f.version p == 0)) (nat_le (blocks_of size) p || is_split size f.size p) e in
       let z = not-true (f.version p == 0) b.0 in (
@@ -115,7 +115,7 @@ module _ (size : ℕ) (f : File) where
       )
 
   -- what is cut was no hole, so it stands before the old end
-  stood : (age p : ℕ) → IsCounted age f → f.version p ≢ 0 → p < blocks_of f.size
+  pub stood : (age p : ℕ) → IsCounted age f → f.version p ≢ 0 → p < blocks_of f.size
   stood age p c n = by (nat_le (blocks_of f.size) p) refl where
     by : (b : Bool) → nat_le (blocks_of f.size) p ≡ b → p < blocks_of f.size
     by true e = absurd (n (c.past p (leb-true (blocks_of f.size) p e)))

@@ -1,33 +1,54 @@
 -- What the definitions hold of, and what near by they don't.
-use Rattle.std.proofs.Common.{◌≡◌, ℕ, ◌+◌, ◌<◌, ◌≤◌, List, [], ◌∷◌, Bool, true, false, ◌||◌, cond, Option, Some, None, refl, ◌∙◌, ap, arith, sym, subst}
-use Rattle.std.specs.Prelude.{◌==◌, codes}
+use Rattle.std.proofs.Common.{◌≡◌, ◌≢◌, inr, ℕ, ◌+◌, ◌<◌, ◌≤◌, List, [], ◌∷◌, Bool, true, false, ◌||◌, ◌&&◌, cond, Option, Some, None, refl, ◌∙◌, ap, arith, sym, subst}
+use Rattle.std.specs.Prelude.{◌==◌, codes, nat_lt, not, IsSomeAnd}
+use Rattle.std.specs.List.{IsDistinct}
+use Rattle.std.proofs.lemmas.Bool.{eqb-true}
 use Rattle.std.proofs.lemmas.Bool.Decides.{nat_tests}
 use Rattle.iris_name.specs.declared.name.FileId.{FileId}
+use Rattle.iris_name.specs.declared.name.Hash32.{Hash32}
+use Rattle.iris_name.specs.declared.name.Name.{Name}
 use Rattle.iris_name.specs.declared.name.Name.TheVariants.{Entry, Part, Block}
 use Rattle.iris_name.specs.declared.request.Request.TheVariants.{Mkdir, Create, Write, Rename}
 use Rattle.iris_name.specs.Paths.{names_of}
+use Rattle.sha2.specs.Sha256.{sha256}
+use Rattle.iris_node.specs.declared.node.Body.TheVariants.{Dir}
+use Rattle.iris_node.specs.declared.node.Link.{Link}
+use Rattle.iris_node.specs.declared.node.Node.TheVariants as node
 use Rattle.iris_node.specs.Trees.{Shown}
-use Rattle.iris_node.specs.Unfolded.{Unfolded, Stored, id_of}
+use Rattle.iris_node.specs.Unfolded.{Unfolded, Even, Stored, id_of}
 use Rattle.iris_rows.specs.Changes.{after_requests, stepped, row_moved}
+use Rattle.iris_records.specs.Records.{spelled}
 use Rattle.iris_records.specs.Shown.{shown}
 use Rattle.iris_rows.specs.Sound.{IsSound}
 use Rattle.iris_rows.specs.FileChanges.{is_touched}
 use Rattle.iris_rows.specs.Rows.{File, Rows, End, Row, Table, Taken, Found, Here, root_row, met, empty_table, empty_file, zeros}
 use Rattle.iris_shape.specs.FoldLaws.{with_range_set}
 use Rattle.iris_forest.proofs.Ids.{taken_eq}
+use Rattle.iris_blocks.specs.declared.draft.PageChange.{PageChange}
+use Rattle.iris_blocks.specs.Changes.{PageDrafted, from_to}
+use Rattle.iris_blocks.specs.Paged.{Paged, ArePagesSound, Shows}
+use Rattle.iris_plain.specs.Checks.{blocks_of}
+use Rattle.iris_files.specs.Cuts.{page_cut}
+use Rattle.iris_files.specs.Pages.{is_block_in, page_written, place_of}
+use Rattle.iris_files.specs.Refiles.{Filed}
 use Rattle.iris_cache.specs.Resident.{Resident}
+use Rattle.iris_cache.specs.declared.held.Held.{Held}
 use Rattle.iris_cache.specs.Drafted.{Drafted, taken_away}
 use Rattle.iris_cache.specs.Pictures.{Pictures}
 use Rattle.iris_rows.proofs.SoundStep.{sound_kept, sound_empty}
 use Rattle.iris_plan_laws.specs.Begun.{IsAtFile, IsPictured, PlanBegins}
 use Rattle.iris_plan_laws.specs.Blocks.{SameBlocks, ChangesBlocks, AreAmong, is_cut_at, IsOfRows}
+use Rattle.iris_plan_laws.specs.Fetches.{IsLinkedAbsent, CollidesIn}
 use Rattle.iris_plan_laws.specs.FileChanges.{emptied_past}
 use Rattle.iris_plan_laws.specs.Makes.{making}
+use Rattle.iris_plan_laws.specs.PageChanges.{PagesBegin, PagesGoThrough, IsLanded, page_shown, SaysPagesWritten, SaysPagesResized}
 use Rattle.iris_plan_laws.specs.Moves.{in_hand, left_below}
 use Rattle.iris_plan_laws.specs.Steps.{IsEmptyContent}
 use Rattle.iris_plan_laws.specs.Takes.{TakesOut, PutsIn}
 use Rattle.iris_plan_laws.proofs.AcceptedRequests.{IsMove, accepted_move, moved_step}
+use Rattle.iris_plan_laws.proofs.BlocksOfRows.{rows_keep_blocks}
 use Rattle.iris_plan_laws.proofs.MovedRow.{HalvesOfMove, halves_of_move}
+use Rattle.iris_plan_laws.proofs.PagesOfSteps.{rows_keep_pages}
 
 -- ---- new content
 
@@ -218,3 +239,118 @@ not_taken t names name i rows row h = let e : End ≡ Row row.id name row.file r
 -- nor put in
 not_put : (t : Table) (names : List (List ℕ)) (name label : List ℕ) (i : ℕ) (rows : Rows) (row : Taken) → PutsIn t t names name label i rows row → ⊥
 not_put t names name label i rows row h = let e : End ≡ Row row.id name row.file row.inside End = sym h.empty ∙ h.hand in absurd (cc)
+
+-- ---- drafts of pages
+
+abbrev no_pages : PageDrafted
+no_pages = record { changes = [] }
+
+abbrev one_page : PageDrafted
+one_page = record { changes = (Block (id_of 2) 0, from_to None (Some (1, zeros))) ∷ [] }
+
+abbrev no_blocks : Paged
+no_blocks = record { pages = []; room = [] }
+
+blocks_kept : ArePagesSound no_blocks
+unfolding IsDistinct
+blocks_kept = record { once = tt; blocks = λ n h e. absurd (cc); empty = λ n e. absurd (cc); few = omega arith }
+
+pages_begin : (order : List ℕ) → PagesBegin order empty_table no_pages no_blocks
+pages_begin order = record { kept = blocks_kept; shows = λ n h e. absurd (cc); empty = λ n. refl }
+
+-- a draft with a page has begun already
+with_a_page : (order : List ℕ) → PagesBegin order empty_table one_page no_blocks → ⊥
+with_a_page order h = let e = h.empty (Block (id_of 2) 0) in absurd (cc)
+
+landed : IsLanded no_pages no_blocks no_blocks
+landed n = refl
+
+-- the page isn't there yet
+not_landed : IsLanded one_page no_blocks no_blocks → ⊥
+not_landed h = let e = h (Block (id_of 2) 0) in absurd (cc)
+
+pages_through : (order : List ℕ) → PagesGoThrough order empty_table (Mkdir (codes "/a")) no_pages no_blocks
+pages_through order = (rows_keep_pages order empty_table (Mkdir (codes "/a")) no_pages no_blocks sound_empty tt (pages_begin order)).0
+
+-- a new directory gives no block a page
+page_of_nothing : (order : List ℕ) → PagesGoThrough order empty_table (Mkdir (codes "/a")) one_page no_blocks → ⊥
+unfolding shown
+page_of_nothing order h =
+    let a = h.changes.changed (Block (id_of 2) 0) (from_to None (Some (1, zeros))) refl in
+    let b = rows_keep_blocks order empty_table (Mkdir (codes "/a")) sound_empty tt (id_of 2) 0 in
+    let e : None ≡ Some (Stored 1 zeros) = sym b ∙ a in absurd (cc)
+
+-- what is no block has no page, nor has a hole
+pages_shown : (page_shown (Some (Stored 1 zeros)) ≡ Some zeros) × (page_shown (Some (Even 1)) ≡ None) × (page_shown None ≡ None)
+pages_shown = (refl, refl, refl)
+
+-- a write of a byte at the start of a file changes its first page
+abbrev first_written : File → ℕ → Option PageChange
+first_written f p = Some (page_written 0 (7 ∷ []) f p)
+
+written_so : (d : Drafted) (c : Resident) (b : Paged) → ((old new : Shown) (f : File) → Filed old new (id_of 2) f d c → f ≡ three)
+    → SaysPagesWritten (id_of 2) 0 (7 ∷ []) d c b no_pages (record { changes = (Block (id_of 2) 0, page_written 0 (7 ∷ []) three 0) ∷ [] })
+written_so d c b one old new f h s (Entry id) = refl
+written_so d c b one old new f h s (Part g l j) = refl
+written_so d c b one old new f h s (Block g p) = by (g.0 == 2) (p == 0) refl ∙ ap (λ r. cond ((g.0 == 2) && r) (first_written f p) None) (at_start p) where
+  at_start : (p : ℕ) → (p == 0) ≡ (not (nat_lt p 0) && nat_lt p 1)
+  at_start p = let a : nat_lt p 0 ≡ false = grind (arith, nat_tests) in let k : nat_lt p 1 ≡ (p == 0) = grind (arith, nat_tests) in cc
+
+  by : (a z : Bool) → (p == 0) ≡ z → cond (a && z) (first_written three 0) None ≡ cond (a && z) (first_written f p) None
+  by true true e = ap (first_written three) (sym (eqb-true p 0 e)) ∙ ap (λ k. first_written k p) (sym (one old new f h))
+  by true false e = refl
+  by false z e = refl
+
+-- it says something of the place that it touches
+written_silently : (old new : Shown) (f : File) (d : Drafted) (c : Resident) (b : Paged) → Filed old new (id_of 2) f d c → Shows new b → SaysPagesWritten (id_of 2) 0 (7 ∷ []) d c b no_pages no_pages → ⊥
+written_silently old new f d c b h s says = let e = says old new f h s (Block (id_of 2) 0) in absurd (cc)
+
+-- a file that is filled up needs no page
+filled_silently : (d : Drafted) (c : Resident) (b : Paged) → ((old new : Shown) (f : File) → Filed old new (id_of 2) f d c → nat_lt 4096 f.size ≡ false) → SaysPagesResized (id_of 2) 4096 d c b no_pages no_pages
+filled_silently d c b short old new f h s n = ap (λ a. cond (a && is_block_in (id_of 2) 1 (blocks_of f.size) n) (page_cut 4096 f (place_of n) None) None) (sym (short old new f h))
+
+-- one that loses a block says so
+cut_silently : (old new : Shown) (d : Drafted) (c : Resident) (b : Paged) → Filed old new (id_of 2) three d c → Shows new b → SaysPagesResized (id_of 2) 4096 d c b no_pages no_pages → ⊥
+cut_silently old new d c b h s says = let e = says old new three h s (Block (id_of 2) 2) in absurd (cc)
+
+-- ---- a fetched node
+
+-- the visible root, resident, with a hash of directory 2, which is absent
+abbrev link_to_two : Link
+link_to_two = record { id = id_of 2; hash = record { 0 = 7 ∷ [] }; blocks = 0 }
+
+abbrev root_held : Held
+root_held = record {
+  parent = None;
+  node = node.Entry (record { id = id_of 0; name = []; left = None; right = None; body = Dir (Some link_to_two) });
+  pins = 0;
+  dirty = false;
+  settled = true;
+  out = None;
+  touched = false;
+  kids = 0;
+}
+
+abbrev one_node : Resident
+one_node = record { nodes = (Entry (id_of 0), root_held) ∷ []; room = [] }
+
+is_linked : IsLinkedAbsent one_node (Entry (id_of 0)) (Entry (id_of 2)) (record { 0 = 7 ∷ [] })
+is_linked = record { absent = refl; parent = root_held; resident = refl; holds = inr (inr (refl, refl)) }
+
+-- a resident node isn't absent, and a parent that is absent holds nothing
+resident_is_none : (p : Name) (x : Hash32) → IsLinkedAbsent one_node p (Entry (id_of 0)) x → ⊥
+resident_is_none p x h = let e = h.absent in absurd (cc)
+
+no_parent : (p n : Name) (x : Hash32) → IsLinkedAbsent no_nodes p n x → ⊥
+no_parent p n x h = let e = h.resident in absurd (cc)
+
+-- a record is no collision with itself, and nothing collides with a name that isn't live
+no_collision : (order key : List ℕ) (t : Table) (n : Name) (u : Unfolded) → shown order t n ≡ Some u → CollidesIn order key t n (spelled key n u) → ⊥
+no_collision order key t n u e h = (subst (λ o. IsSomeAnd o (λ w. (spelled key n u ≢ spelled key n w) × (sha256 (spelled key n u) ≡ sha256 (spelled key n w)))) e h).0 refl
+
+no_live_name : (order key : List ℕ) (t : Table) (n : Name) (bytes : List ℕ) → shown order t n ≡ None → CollidesIn order key t n bytes → ⊥
+no_live_name order key t n bytes e h = subst (λ o. IsSomeAnd o (λ u. (bytes ≢ spelled key n u) × (sha256 bytes ≡ sha256 (spelled key n u)))) e h
+
+-- other bytes of its hash are one
+a_collision : (order key : List ℕ) (t : Table) (n : Name) (u : Unfolded) (bytes : List ℕ) → shown order t n ≡ Some u → bytes ≢ spelled key n u → sha256 bytes ≡ sha256 (spelled key n u) → CollidesIn order key t n bytes
+a_collision order key t n u bytes e a b = subst (λ o. IsSomeAnd o (λ w. (bytes ≢ spelled key n w) × (sha256 bytes ≡ sha256 (spelled key n w)))) (sym e) (a, b)

@@ -2,9 +2,11 @@
 -- makes_are_rows: NewRow, over DirectoryById; rows_go_and_come: RowTakenAndPut, over RowByName
 -- rows_are_left: RowsLeft, MovedRow
 -- blocks_change: BlocksOfRows, BlocksOfSteps
+-- writes_change_pages, resizes_change_pages, rows_keep_pages: PagesOfSteps, over BlocksOfSteps, BlocksOfRows and Pictured
 -- between_is_sound: CutBetween
 -- makes_go_through: MadeRow; moves_go_through: MovedRow; writes_go_through, resizes_go_through: ChangedFile; all over AcceptedRequests and Pictured
 -- reads_are_replies: RepliesOfPlans
+-- fetched_nodes_fit: FetchedNodes
 pub mod MappedShown
 pub mod FileById
 pub mod DirectoryById
@@ -20,5 +22,7 @@ pub mod MovedRow
 pub mod ChangedFile
 pub mod BlocksOfRows
 pub mod BlocksOfSteps
+pub mod PagesOfSteps
 pub mod RepliesOfPlans
+pub mod FetchedNodes
 pub mod Examples

@@ -6,3 +6,5 @@ pub mod Makes
 pub mod Moves
 pub mod FileChanges
 pub mod Replies
+pub mod PageChanges
+pub mod Fetches

@@ -1,9 +1,11 @@
 //! What a request makes of a table, in the words of the plans, and what goes through them.
 
 ghost use Rattle.iris_plan_laws.specs.Blocks.{RowsKeepBlocks, WritesChangeBlocks, ResizesChangeBlocks};
+ghost use Rattle.iris_plan_laws.specs.Fetches.{RecordsFit, FetchesFit, FetchesKeep};
 ghost use Rattle.iris_plan_laws.specs.FileChanges.{BetweenIsSound, WritesGoThrough, ResizesGoThrough};
 ghost use Rattle.iris_plan_laws.specs.Makes.{MakesGoThrough};
 ghost use Rattle.iris_plan_laws.specs.Moves.{HandsAreHeld, NamesLeadOn, NoNameComes, MovesGoThrough};
+ghost use Rattle.iris_plan_laws.specs.PageChanges.{WritesChangePages, ResizesChangePages, RowsKeepPages};
 ghost use Rattle.iris_plan_laws.specs.Replies.{ListsAreReplies, StatsAreReplies};
 ghost use Rattle.iris_plan_laws.specs.Steps.{FilesAreRefiled, MakesAreRows};
 ghost use Rattle.iris_plan_laws.specs.Takes.{TakesAreRows, PutsAreRows};
@@ -63,8 +65,31 @@ pub fn resizes_go_through()
     ensures { ResizesGoThrough }
 {}
 
+/// What is written goes through the resident blocks: the plan leaves a draft of pages that makes them show the next table.
+pub fn writes_change_pages()
+    ensures { WritesChangePages }
+{}
+
+/// So does what is cut or filled up.
+pub fn resizes_change_pages()
+    ensures { ResizesChangePages }
+{}
+
+/// So does what makes or moves rows, with no page drafted.
+pub fn rows_keep_pages()
+    ensures { RowsKeepPages }
+{}
+
 /// What the plans that read paths answer is the table's reply.
 pub fn reads_are_replies()
     ensures lists { ListsAreReplies }
     ensures stats { StatsAreReplies }
+{}
+
+/// A node whose record was fetched under the hash that its resident parent holds is the table's with its true hashes, unless
+/// SHA-256 collides, and goes into the cache below that parent.
+pub fn fetched_nodes_fit()
+    ensures records { RecordsFit }
+    ensures fetched { FetchesFit }
+    ensures inserted { FetchesKeep }
 {}
