@@ -1,12 +1,12 @@
 -- Files worked out by hand, which the definitions compute.
-use Rattle.std.proofs.Common.{◌≡◌, ◌==◌, if◌then◌else◌, ℕ, List, [], ◌∷◌, Bool, true, false, Option, Some, None, refl}
+use Rattle.std.proofs.Common.{◌≡◌, ◌==◌, if◌then◌else◌, ℕ, [], true, false, Some, None, refl}
 use Rattle.iris_name.specs.declared.name.FileId.{FileId}
 use Rattle.iris_name.specs.declared.name.Name.TheVariants.{Entry, Block}
-use Rattle.iris_node.specs.Unfolded.{Unfolded, Absent, Folder, Leaf, Even}
+use Rattle.iris_node.specs.Unfolded.{Absent, Leaf, Even}
 use Rattle.iris_shape.specs.FoldLaws.{with_range_set}
 use Rattle.iris_rows.specs.Rows.{File}
 use Rattle.iris_blocks.specs.Changes.{from_to}
-use Rattle.iris_files.specs.Pages.{page_in, or_zeros, is_block_in, read_end}
+use Rattle.iris_files.specs.Pages.{page_in, is_block_in, read_end}
 use Rattle.iris_files.specs.Cuts.{renumbered, page_cut, versions_cut}
 use Rattle.iris_files.specs.Lengths.{with_length}
 use Rattle.iris_files.specs.Refiles.{refiled}
