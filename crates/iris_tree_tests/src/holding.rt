@@ -76,7 +76,8 @@ fn let_few_go(alloc: Global, cache: &mut Cache, count: u32) -> Result<Vec<Node>,
 
 // Takes those in again, the last that went first, under the parents that the cache names.
 fn take_again(cache: &mut Cache, mut gone: Vec<Node>) -> Result<bool, Fail> {
-    while let Some(node) = gone.pop() {
+    for _ in 0..gone.len() {
+        let node = gone.pop().ok_or("a node")?;
         let name = node.name();
         let parent = cache.holder(&name);
         if parent != resident_over(cache, &name) {
