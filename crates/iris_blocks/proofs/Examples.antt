@@ -1,5 +1,10 @@
 -- Blocks worked out by hand, which the definitions compute.
-use Rattle.std.proofs.Common.{◌≡◌, ℕ, [], ◌∷◌, true, false, Some, None, refl}
+use Rattle.std.proofs.Common.{◌≡◌, ℕ, [], ◌∷◌, Bool, true, false, cond, Option, Some, None, refl, ap, IsSome}
+use Rattle.iris_name.specs.Names.{same_name}
+use Rattle.iris_node.specs.Trees.{Shown}
+use Rattle.iris_node.specs.Unfolded.{Unfolded, Stored}
+use Rattle.iris_blocks.specs.declared.draft.PageChange.{PageChange}
+use Rattle.iris_blocks.specs.Laws.{ChangesEach, stored_block}
 use Rattle.iris_name.specs.declared.name.FileId.{FileId}
 use Rattle.iris_name.specs.declared.name.Name.TheVariants.{Block}
 use Rattle.iris_cache.specs.declared.held.Stay.TheVariants as stay
@@ -65,3 +70,52 @@ sets = (refl, refl, refl)
 
 lands : (landed_page (change_of two (Block (file 2) 7)) (Some clean) ≡ None) × (landed_page (change_of two (Block (file 2) 8)) None ≡ Some (arrived_page 4 [])) × (landed_page (change_of two (Block (file 2) 9)) (Some clean) ≡ Some clean)
 lands = (refl, refl, refl)
+
+-- the tables before it and after it
+abbrev before : Shown
+before n = cond (same_name n (Block (file 2) 7)) (Some (Stored 3 [])) None
+
+abbrev after : Shown
+after n = cond (same_name n (Block (file 2) 7)) None (cond (same_name n (Block (file 2) 8)) (Some (Stored 4 [])) None)
+
+-- it changes each: 7 is resident, and 8 was a hole
+abbrev change_by : Bool → Bool → Option PageChange
+change_by a b = cond a (Some (from_to (Some []) None)) (cond b (Some (from_to None (Some (4, [])))) None)
+
+abbrev after_by : Bool → Bool → Option Unfolded
+after_by a b = cond a None (cond b (Some (Stored 4 [])) None)
+
+changes_each : ChangesEach before after two one
+changes_each = record {
+  to = record {
+    changed = λ n change. changed (same_name n (Block (file 2) 7)) (same_name n (Block (file 2) 8)) change;
+    others = λ n block. others (same_name n (Block (file 2) 7)) (same_name n (Block (file 2) 8));
+  };
+  differs = λ n change. differs (same_name n (Block (file 2) 7)) (same_name n (Block (file 2) 8)) change;
+  held = λ n change c. held (same_name n (Block (file 2) 7));
+} where
+  changed : (a b : Bool) (change : PageChange) → change_by a b ≡ Some change → after_by a b ≡ stored_block change.new
+  changed true b change c = let e : from_to (Some []) None ≡ change = cc in ap (λ (y : PageChange). stored_block y.new) e
+  changed false true change c = let e : from_to None (Some (4, [])) ≡ change = cc in ap (λ (y : PageChange). stored_block y.new) e
+  changed false false change c = absurd (cc)
+
+  others : (a b : Bool) → change_by a b ≡ None → after_by a b ≡ cond a (Some (Stored 3 [])) None
+  others true b c = absurd (cc)
+  others false true c = absurd (cc)
+  others false false c = refl
+
+  differs : (a b : Bool) (change : PageChange) → change_by a b ≡ Some change → after_by a b ≡ cond a (Some (Stored 3 [])) None → ⊥
+  differs true b change c e = cc
+  differs false true change c e = cc
+  differs false false change c e = cc
+
+  held : (a : Bool) → IsSome (cond a (Some (Stored 3 [])) None) → IsSome (cond a (Some clean) None)
+  held true live = refl
+  held false live = absurd (cc)
+
+-- where 7 isn't resident it doesn't, nor where the table stays
+not_resident : ChangesEach before after two (record { pages = []; room = [] }) → ⊥
+not_resident h = let e = h.held (Block (file 2) 7) (from_to (Some []) None) refl refl in absurd (cc)
+
+not_changed : (t : Shown) → ChangesEach t t two one → ⊥
+not_changed t h = h.differs (Block (file 2) 7) (from_to (Some []) None) refl refl

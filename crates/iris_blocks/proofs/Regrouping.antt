@@ -1,6 +1,6 @@
 -- The groups after a block has come or gone, an edit of one, and where all pins of a caller are taken off.
 use Rattle.std.proofs.Common.{◌≡◌, ◌≢◌, ◌⊎◌, inl, inr, ◌+◌, ◌-◌, ◌≤◌, ◌<◌, ◌++◌, ◌^◌, ℕ, zero, suc, Bool, true, false, cond, List, [], ◌∷◌, Option, Some, None, refl, ap, sym, ◌∙◌, subst, arith, length, get_or, set, slice_get, true≢false, is_some, length-append, map, get_or-set_same, get_or-set_other}
-use Rattle.std.specs.Prelude.{◌&&◌, not, IsSome, IsSomeAnd, IfSome, swap_remove, nat_lt}
+use Rattle.std.specs.Prelude.{◌&&◌, ◌↔◌, not, IsSome, IsSomeAnd, IfSome, swap_remove, nat_lt}
 use Rattle.std.specs.List.{count_by, IsDistinct}
 use Rattle.std.specs.Option.{option_map}
 use Rattle.std.specs.Map.{lookup, keys_of}
@@ -350,6 +350,27 @@ loose_none es ends g none q = none_by (λ h. IsSome (page_stay_of h)) es q (look
       | inl lt ↦ inl ((g.dirty k e (λ y. omega (arith, y, w)) at).0 lt)
       | inr ge ↦ inr ((g.loose k e (λ y. omega (arith, y, w)) at).1 (omega (arith, ge, none)))
     ])))
+
+-- an entry can go exactly where it stands behind the dirty ones and among the first three groups
+loose_by : (dirty out pinned : Bool) → page_stay_by out dirty pinned ≡ None → (is_in_two (group_by dirty out pinned) ≡ false) × (is_in_three (group_by dirty out pinned) ≡ true)
+loose_by false false false s = (refl, refl)
+loose_by false false true s = absurd (cc)
+loose_by false true p s = absurd (cc)
+loose_by true false p s = absurd (cc)
+loose_by true true p s = absurd (cc)
+
+pub loose_at : (es : Entries) (ends : Ends) (k : ℕ) (e : Name × PageHeld) → AreGrouped es ends → slice_get es k ≡ Some e → ((ends.dirty ≤ k) × (k < ends.loose)) ↔ (page_stay_of e.1 ≡ None)
+loose_at es ends k e g at =
+    let w = slice_get_within es k e at in
+    let two = g.dirty k e (λ y. omega (arith, y, w)) at in
+    let three = g.loose k e (λ y. omega (arith, y, w)) at in (
+      λ r. goes_by e.1.dirty (is_some e.1.out) (nat_lt 0 e.1.pins) (two.1 r.0) (three.0 r.1),
+      λ s.
+          let b = loose_by e.1.dirty (is_some e.1.out) (nat_lt 0 e.1.pins) s in (
+            elim (cases_lt k ends.dirty) [ inl lt ↦ absurd (true≢false (sym (two.0 lt) ∙ b.0)) | inr ge ↦ ge ],
+            elim (cases_lt k ends.loose) [ inl lt ↦ lt | inr ge ↦ absurd (true≢false (sym b.1 ∙ three.1 ge)) ],
+          ),
+    )
 
 map_so : (b : Bool) (f : PageHeld → PageHeld) (h : PageHeld) (o : Option PageHeld) → (b ≡ true → o ≡ Some h) → cond b (Some (f h)) o ≡ map_if b f o
 map_so true f h o is = sym (ap (option_map f) (is refl))

@@ -19,7 +19,7 @@ use Rattle.iris_cache.specs.Rehash.{top_part, low_part, high_part}
 use Rattle.iris_node.specs.Trees.{Shown, IsParent, IsAbove, IsNodeName, IsTree, node_name}
 use Rattle.iris_cache.specs.Pictures.{IsLike, Holds, LinkHolds, SideHolds, BodyHolds}
 
-abbrev lead-id : ℕ → Option Lead → ℕ
+abbrev pub lead-id : ℕ → Option Lead → ℕ
 lead-id n None = n
 lead-id n (Some l) = l.id
 
@@ -66,21 +66,26 @@ entry-child Absent e b n x formed is h = cc
 entry-child (Even v) e b n x formed is h = cc
 entry-child (Stored v bytes) e b n x formed is h = cc
 
+-- the halves of a part, by its numbers
+pub low-is : (f l i : ℕ) (p : PartFields) → f ≡ p.file.0 → l ≡ p.level → i ≡ p.index → name.Part (id_of f) (l - 1) (2 * i) ≡ low_part p
+low-is f l i p a b c = ap (λ k. name.Part (id_of k) (l - 1) (2 * i)) a ∙ ap (λ k. name.Part p.file (k - 1) (2 * i)) b ∙ ap (λ k. name.Part p.file (p.level - 1) (2 * k)) c
+
+pub high-is : (f l i : ℕ) (p : PartFields) → f ≡ p.file.0 → l ≡ p.level → i ≡ p.index → name.Part (id_of f) (l - 1) (2 * i + 1) ≡ high_part p
+high-is f l i p a b c = ap (λ k. name.Part (id_of k) (l - 1) (2 * i + 1)) a ∙ ap (λ k. name.Part p.file (k - 1) (2 * i + 1)) b ∙ ap (λ k. name.Part p.file (p.level - 1) (2 * k + 1)) c
+
 part-child : (u : Unfolded) (p : PartFields) (n : Name) (x : Hash32) → IsFormed u → local u ≡ Some (local_of (Part p)) → SideHolds (low_part p) p.low n x ⊎ SideHolds (high_part p) p.high n x → Child u n
 part-child (Split f l i low high) p n x formed is (inl h) =
     let q : even low ≡ even_by p.low = cc in
     let a : f ≡ p.file.0 = cc in
     let b : l ≡ p.level = cc in
     let c : i ≡ p.index = cc in
-    let same : name.Part (id_of f) (l - 1) (2 * i) ≡ low_part p = ap (λ k. name.Part (id_of k) (l - 1) (2 * i)) a ∙ ap (λ k. name.Part p.file (k - 1) (2 * i)) b ∙ ap (λ k. name.Part p.file (p.level - 1) (2 * k)) c in
-    (low, inl refl, side-name (low_part p) low p.low n x q (subst (λ k. IsSide k low) same formed.0) h)
+    (low, inl refl, side-name (low_part p) low p.low n x q (subst (λ k. IsSide k low) (low-is f l i p a b c) formed.0) h)
 part-child (Split f l i low high) p n x formed is (inr h) =
     let q : even high ≡ even_by p.high = cc in
     let a : f ≡ p.file.0 = cc in
     let b : l ≡ p.level = cc in
     let c : i ≡ p.index = cc in
-    let same : name.Part (id_of f) (l - 1) (2 * i + 1) ≡ high_part p = ap (λ k. name.Part (id_of k) (l - 1) (2 * i + 1)) a ∙ ap (λ k. name.Part p.file (k - 1) (2 * i + 1)) b ∙ ap (λ k. name.Part p.file (p.level - 1) (2 * k + 1)) c in
-    (high, inr refl, side-name (high_part p) high p.high n x q (subst (λ k. IsSide k high) same formed.1) h)
+    (high, inr refl, side-name (high_part p) high p.high n x q (subst (λ k. IsSide k high) (high-is f l i p a b c) formed.1) h)
 part-child (Folder id label less more inside) p n x formed is h = cc
 part-child (Leaf id label less more size counter versions) p n x formed is h = cc
 part-child Absent p n x formed is h = cc

@@ -13,7 +13,7 @@ use Rattle.iris_node.specs.declared.node.Body.{Body}
 use Rattle.iris_node.specs.declared.node.Body.TheVariants.{Dir, File}
 use Rattle.iris_node.specs.declared.node.Node.{Node}
 use Rattle.iris_node.specs.declared.node.Node.TheVariants.{Entry, Part}
-use Rattle.iris_links.specs.Links.{LinkIndex, linked_count, linked_sum, IsSameSum}
+use Rattle.iris_links.specs.Links.{LinkIndex, CountsAlike, linked_count, linked_sum, IsSameSum}
 use Rattle.iris_links.specs.NodeLinks.{link_count, link_inside, links_to, entry_id, sum_to}
 use Rattle.iris_cache.specs.declared.held.Held.{Held}
 use Rattle.iris_cache.specs.declared.held.Edit.{Edit}
@@ -165,9 +165,12 @@ indexed-all c e l f keeps all is indexed = record {
       indexed.sums sure id ∙ sym (ap (λ es. sum_by w (values_of es) % 2 ^ 64) all ∙ ap (λ k. k % 2 ^ 64) (sum-all w f (λ h. sums-mapped f keeps id (Some h)) c.nodes));
 }
 
--- all nodes stay
-pub indexed-again : (c e : Resident) (l m : LinkIndex) → e.nodes ≡ c.nodes → m ≡ l → IsIndexed c l → IsIndexed e m
-indexed-again c e l m nodes same indexed = subst (IsIndexed e) (sym same) (record {
+alike : (l m : LinkIndex) → CountsAlike l m → record l { room = m.room } ≡ m
+alike l m same = λ i. record { linked = sym same.0 i; partial = sym same.1 i; room = m.room }
+
+-- all nodes stay, and so does what is counted
+pub indexed-again : (c e : Resident) (l m : LinkIndex) → e.nodes ≡ c.nodes → CountsAlike l m → IsIndexed c l → IsIndexed e m
+indexed-again c e l m nodes same indexed = subst (IsIndexed e) (alike l m same) (record {
   ranges = λ q h at. indexed.ranges q h (sym (ap (λ (es : List (Name × Held)). lookup (same_name q) es) nodes) ∙ at);
   counts = λ sure id. indexed.counts sure id ∙ sym (ap (λ (es : List (Name × Held)). sum_by (λ (g : Held). links_to id g.node) (values_of es)) nodes);
   sums = λ sure id. indexed.sums sure id ∙ sym (ap (λ (es : List (Name × Held)). sum_by (λ (g : Held). sum_to id g.node) (values_of es) % 2 ^ 64) nodes);

@@ -69,7 +69,8 @@ entry-same : (n : Name) (x : Hash32) (e : EntryFields) (b : Body) → entry_loca
 entry-same n x e (Dir top) = λ i. FolderAt e.id.0 e.name (led-same n x e.left i) (led-same n x e.right i) (led-same n x top i)
 entry-same n x e (File size counter versions) = λ i. LeafAt e.id.0 e.name (led-same n x e.left i) (led-same n x e.right i) size counter (even-same (same_name (top_part e.id) n) x versions i)
 
-local-same : (n : Name) (x : Hash32) (k : Node) → local_of (rehashed n x k) ≡ local_of k
+-- a hash set in a node changes nothing that the node says by itself
+pub local-same : (n : Name) (x : Hash32) (k : Node) → local_of (rehashed n x k) ≡ local_of k
 local-same n x (Entry e) = entry-same n x e e.body
 local-same n x (Part p) = λ i. SplitAt p.file.0 p.level p.index (even-same (same_name (low_part p) n) x p.low i) (even-same (same_name (high_part p) n) x p.high i)
 

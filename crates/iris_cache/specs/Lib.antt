@@ -2,6 +2,7 @@ pub mod Held
 pub mod Resident
 pub mod Indexed
 pub mod Idle
+pub mod Dirty
 pub mod Kept
 pub mod Drafted
 pub mod Rehash

@@ -1,6 +1,6 @@
 //! Resident nodes.
 
-ghost use Rattle.std.specs.Prelude.{◌≡◌, ◌≤◌, ◌<◌, ◌+◌, Option, Some, None, IsSome, IfSome, IfOk, IfErr, OnOk, OnErr, is_some, if◌then◌else◌, not, length, true, false, slice_get};
+ghost use Rattle.std.specs.Prelude.{◌≡◌, ◌≤◌, ◌<◌, ◌+◌, Option, Some, None, IsSome, IfSome, IfOk, IfErr, OnOk, OnErr, is_some, count_by, if◌then◌else◌, not, length, true, false, slice_get};
 ghost use Rattle.std.specs.Option.{option_copied, option_map};
 ghost use Rattle.iris_name.specs.Names.{same_name};
 ghost use Rattle.iris_node.specs.Nodes.{name_of};
@@ -29,6 +29,8 @@ pub struct Cache {
     pub(crate) links: Links,
     // The names of the resident nodes that can go.
     pub(crate) idle: Idle,
+    // How many of them are dirty.
+    pub(crate) dirty: usize,
 }
 
 impl Model for Cache {
@@ -41,7 +43,7 @@ impl Model for Cache {
     ghost view = { λ a. record { nodes = a.nodes.entries; room = a.places.keys } };
 
     ghost invariant = { λ a. IsKept (record { nodes = a.nodes.entries; room = a.places.keys })
-        a.astray (spare a.nodes) a.links a.idle };
+        a.astray (spare a.nodes) a.links a.idle a.dirty };
 }
 
 impl Cache {
@@ -57,6 +59,7 @@ impl Cache {
             astray: false,
             links: Links::new(alloc),
             idle: Idle::new(alloc),
+            dirty: 0,
         }
     }
 
@@ -72,6 +75,13 @@ impl Cache {
         ensures { result ≡ length self.now.nodes }
     {
         self.nodes.len() as u32
+    }
+
+    /// How many are dirty. It goes over none.
+    pub fn dirty(&self) -> u32
+        ensures { result ≡ count_by (λ e. e.1.dirty) self.now.nodes }
+    {
+        self.dirty as u32
     }
 
     /// The `i`-th resident node, in an order that is left open.

@@ -1,12 +1,14 @@
 //! Changes of one resident node in the map of them.
 
-ghost use Rattle.std.specs.Prelude.{◌≡◌, ◌≢◌, ◌≤◌, map, ◌<◌, ◌^◌, IfSome, IsSome, Some, length, false};
+ghost use Rattle.std.specs.Prelude.{◌≡◌, ◌≢◌, ◌≤◌, ◌+◌, map, ◌<◌, ◌^◌, IfSome, IsSome, Some, length, false};
+ghost use Rattle.std.specs.Option.{option_map};
 ghost use Rattle.std.specs.Map.{values_of};
 ghost use Rattle.std.specs.List.{count_by};
 ghost use Rattle.iris_name.specs.Names.{same_name};
 ghost use Rattle.iris_name.specs.declared.name.Name.{Name as SpecName};
 ghost use Rattle.indexmap.specs.IndexMap.{IsUnique, spare, get};
 ghost use Rattle.iris_cache.specs.Held.{IsEdit, edited_node, is_child, points, unpinned_node, with_node};
+ghost use Rattle.iris_cache.specs.Dirty.{dirty_addend};
 ghost use Rattle.iris_cache.specs.Idle.{is_free};
 ghost use Rattle.iris_cache.specs.Resident.{map_if};
 
@@ -29,6 +31,32 @@ pub(crate) fn edit(nodes: &mut IndexMap<Name, Held>, name: &Name, edit: Edit) ->
 {
     match nodes.get_mut(name) {
         Some(held) => held.edit(edit),
+        None => Edited::Missing,
+    }
+}
+
+// Makes an edit of a node, where it is resident, with the count of the dirty ones.
+pub(crate) fn edit_counted(
+    nodes: &mut IndexMap<Name, Held>,
+    dirty: &mut usize,
+    name: &Name,
+    change: Edit,
+) -> Edited
+    requires edit { IfSome (get same_name nodes.old name.now) (IsEdit change) }
+    requires counted { dirty_addend (get same_name nodes.old name.now) ≤ dirty.old }
+    requires few { dirty.old < 2 ^ 32 }
+    ensures nodes { (q : SpecName) → get same_name nodes.new q ≡
+        map_if (same_name name.now q) (edited_node change) (get same_name nodes.old q) }
+    ensures dirty { dirty.new + dirty_addend (get same_name nodes.old name.now) ≡ dirty.old +
+        dirty_addend (option_map (edited_node change) (get same_name nodes.old name.now)) }
+    ensures count { length nodes.new.entries ≡ length nodes.old.entries }
+    ensures spare { spare nodes.new ≡ spare nodes.old }
+    ensures unique { IsUnique same_name nodes.old → IsUnique same_name nodes.new }
+    ensures same { result ≢ Edited.Turned → (q : SpecName) →
+        is_free (get same_name nodes.new q) ≡ is_free (get same_name nodes.old q) }
+{
+    match nodes.get_mut(name) {
+        Some(held) => held.edit_counted(change, dirty),
         None => Edited::Missing,
     }
 }

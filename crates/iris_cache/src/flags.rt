@@ -7,7 +7,7 @@ ghost use Rattle.iris_cache.specs.Held.{edited_node, IsFlag, pinned_node, unpinn
 ghost use Rattle.iris_cache.specs.Resident.{held_node, Updates};
 
 use crate::cache::Cache;
-use crate::edits::{edit, unpin_all};
+use crate::edits::{edit_counted, unpin_all};
 use crate::held::Edit;
 use crate::idle::{file_freed, refile};
 use iris_name::Name;
@@ -20,7 +20,7 @@ impl Cache {
         ensures room { self.new.room ≡ self.old.room }
         ensures count { length self.new.nodes ≡ length self.old.nodes }
     {
-        let edited = edit(&mut self.nodes, name, change);
+        let edited = edit_counted(&mut self.nodes, &mut self.dirty, name, change);
         refile(&mut self.idle, &self.nodes, name, edited);
     }
 

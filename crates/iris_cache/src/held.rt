@@ -1,7 +1,8 @@
 //! What the cache holds of a node.
 
-ghost use Rattle.std.specs.Prelude.{◌≡◌, ◌≢◌, ◌≤◌, Some, is_none};
+ghost use Rattle.std.specs.Prelude.{◌≡◌, ◌≢◌, ◌≤◌, ◌<◌, ◌+◌, ◌^◌, Some, is_none};
 ghost use Rattle.iris_cache.specs.Held.{IsEdit, edited_node, touched_after, stay_of, with_node};
+ghost use Rattle.iris_cache.specs.Dirty.{dirty_addend};
 ghost use Rattle.iris_cache.specs.Idle.{is_freed_by, is_missing};
 
 use iris_name::{Expect, Name, NoMemory};
@@ -105,6 +106,23 @@ impl Held {
         }
     }
 
+    // Makes an edit, with the count of the dirty nodes, of which it may be one.
+    pub(crate) fn edit_counted(&mut self, edit: Edit, dirty: &mut usize) -> Edited
+        requires edit { IsEdit edit self.old }
+        requires counted { dirty_addend (Some self.old) ≤ dirty.old }
+        requires few { dirty.old < 2 ^ 32 }
+        ensures node { self.new ≡ edited_node edit self.old }
+        ensures dirty { dirty.new + dirty_addend (Some self.old) ≡
+            dirty.old + dirty_addend (Some self.new) }
+        ensures same { result ≢ Edited.Turned →
+            is_none (stay_of self.new) ≡ is_none (stay_of self.old) }
+    {
+        *dirty -= usize::from(self.dirty);
+        let edited = self.edit(edit);
+        *dirty += usize::from(self.dirty);
+        edited
+    }
+
     fn make(&mut self, edit: Edit)
         requires { IsEdit edit self.old }
         ensures { self.new ≡ edited_node edit self.old }
@@ -173,8 +191,8 @@ impl Held {
         None
     }
 
-    // Whether nothing keeps it.
-    pub(crate) fn is_free(&self) -> bool
+    /// Whether nothing keeps it: `evict` would let it go.
+    pub fn is_free(&self) -> bool
         ensures { result ≡ is_none (stay_of self.now) }
     {
         self.stay().is_none()

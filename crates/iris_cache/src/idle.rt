@@ -1,11 +1,13 @@
 //! The names of the resident nodes that can go.
 
 ghost use Rattle.std.specs.Prelude.{◌≡◌, ◌≤◌, ◌||◌, ◌&&◌, None, IfSome, true, false, if◌then◌else◌};
+ghost use Rattle.std.specs.List.{list_any};
 ghost use Rattle.iris_name.specs.Names.{same_name};
 ghost use Rattle.iris_name.specs.declared.name.Name.{Name as SpecName};
 ghost use Rattle.indexmap.specs.IndexMap.{get};
 ghost use Rattle.iris_cache.specs.Idle.{is_idle, is_free, is_freed_by, is_turned, CanGo};
 ghost use Rattle.iris_cache.specs.Held.{points};
+ghost use Rattle.iris_cache.specs.Resident.{held_node};
 
 use crate::cache::Cache;
 use crate::held::{Edited, Held};
@@ -70,6 +72,17 @@ impl Idle {
         ensures none { result ≡ None → (q : SpecName) → is_idle self.now q ≡ false }
     {
         self.names.get_index(0)
+    }
+
+    // The names, unless one may be missing.
+    fn sure_names(&self) -> Option<&[Name]>
+        ensures names { IfSome result (λ names. names.now ≡ self.now.names) }
+        ensures sure { IfSome result (λ names. self.now.unsure ≡ false) }
+    {
+        if self.unsure {
+            return None;
+        }
+        Some(self.names.as_slice())
     }
 
     fn is_unsure(&self) -> bool
@@ -157,6 +170,15 @@ impl Cache {
         }
         let name = self.idle.first()?;
         Some(name)
+    }
+
+    /// The names of the nodes that `evict` lets go, in an order that is left open; none where one may be missing, since there wasn't
+    /// memory for it.
+    pub fn idle(&self) -> Option<&[Name]>
+        ensures { IfSome result (λ names. (q : SpecName) →
+            list_any (same_name q) names.now ≡ is_free (held_node self.now q)) }
+    {
+        self.idle.sure_names()
     }
 
     // Any node that can go, by a pass over all that is resident.

@@ -32,8 +32,7 @@ pub(crate) fn exchange_links(
         sums_in q (option_map (with_node node.now) (get same_name nodes.now name.now))) }
 {
     if let Some(held) = nodes.get(name) {
-        links.remove_node(&held.node);
-        links.add_node(node);
+        links.exchange_node(&held.node, node);
     }
 }
 

@@ -33,6 +33,7 @@ impl Cache {
         guest.kids = count_children(&self.nodes, &name, self.astray);
         self.idle.file(&name, guest.is_free());
         self.links.add_node(&guest.node);
+        self.dirty += usize::from(guest.dirty);
         match self.nodes.insert(name, guest) {
             Ok(_) => {}
             Err(_) => unreachable!(),
@@ -94,6 +95,7 @@ impl Cache {
         };
         self.astray |= held.kids > 0;
         self.links.remove_node(&held.node);
+        self.dirty -= usize::from(held.dirty);
         self.idle.file(name, false);
         held
     }

@@ -95,7 +95,7 @@ kept_twice s = let e = (IsDistinct-head same_name (n 1) (n 1 ∷ []) s.kept).0 i
 -- ---- all desks
 
 abbrev desks : DesksState
-desks = record { desks = empty_desk ∷ busy ∷ record { request = None; out = get 3 ∷ []; kept = n 1 ∷ [] } ∷ []; doomed = n 9 ∷ [] }
+desks = record { desks = empty_desk ∷ busy ∷ record { request = None; out = get 3 ∷ []; kept = n 1 ∷ [] } ∷ []; doomed = n 9 ∷ []; room = 0 }
 
 -- with the number of the desk, which is no part of the name
 out_there : (out_of desks (n 2) ≡ Some (1, put 2)) × (out_of desks (n 3) ≡ Some (2, get 3)) × (out_of desks (n 5) ≡ None)
@@ -114,14 +114,14 @@ doomed_there : (is_doomed desks (n 9) ≡ true) × (is_doomed desks (n 1) ≡ fa
 doomed_there = (refl, refl)
 
 -- a name that is out at two desks
-out_at_two : AreDesksSound (record { desks = busy ∷ busy ∷ replicate 15 empty_desk; doomed = [] }) → ⊥
+out_at_two : AreDesksSound (record { desks = busy ∷ busy ∷ replicate 15 empty_desk; doomed = []; room = 0 }) → ⊥
 out_at_two s = let h : 0 ≡ 1 = s.apart (n 1) 0 1 (get 1) (get 1) refl refl in absurd (omega (arith, h))
 
 -- a caller without a desk
-too_few : AreDesksSound (record { desks = replicate 16 empty_desk; doomed = [] }) → ⊥
+too_few : AreDesksSound (record { desks = replicate 16 empty_desk; doomed = []; room = 0 }) → ⊥
 too_few s = let h : 16 ≡ 17 = s.seats in absurd (omega (arith, h))
 
-doomed_twice : AreDesksSound (record { desks = replicate 17 empty_desk; doomed = n 9 ∷ n 9 ∷ [] }) → ⊥
+doomed_twice : AreDesksSound (record { desks = replicate 17 empty_desk; doomed = n 9 ∷ n 9 ∷ []; room = 0 }) → ⊥
 doomed_twice s = let e = (IsDistinct-head same_name (n 9) (n 9 ∷ []) s.once).0 in cc
 
 -- another desk changes as well

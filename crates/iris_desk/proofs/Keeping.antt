@@ -97,7 +97,7 @@ seat d who x sound le is = slice_get_read d.desks 17 who x (sym sound.seats) (om
 -- a caller's desk is written anew
 module _ (d old : DesksState) (who : ℕ) (x y : DeskState) (f : DeskState → DeskState) (sound : AreDesksSound d) (le : who ≤ 16) (at : x ≡ get_or d.desks who x) (is : y ≡ f x) where
   abbrev written : DesksState
-  written = record { desks = set d.desks who y; doomed = d.doomed }
+  written = record d { desks = set d.desks who y }
 
   changes : ChangesDesk d written who f
   changes = set_changes d.desks who x y f (let k = sound.seats in omega (arith, k, le)) (seat d who x sound le at) is
@@ -115,11 +115,11 @@ module _ (d old : DesksState) (who : ℕ) (x y : DeskState) (f : DeskState → D
 
 -- what is out for a name ends at a caller's desk, or nothing was out for it there
 module _ (d old : DesksState) (who : ℕ) (x y : DeskState) (keep : Bool) (n : Name) (sound : AreDesksSound d) (le : who ≤ 16) (at : x ≡ get_or d.desks who x) where
-  pub ended_sound_at : (r : Option Out) → OnSome r (y ≡ ended_desk keep n x) → IfNone r (y ≡ x) → IsDeskSound y → AreDesksSound (record { desks = set d.desks who y; doomed = d.doomed })
+  pub ended_sound_at : (r : Option Out) → OnSome r (y ≡ ended_desk keep n x) → IfNone r (y ≡ x) → IsDeskSound y → AreDesksSound (record d { desks = set d.desks who y })
   ended_sound_at None ended none s = written_sound d d who x y (λ z. z) sound le at none s (λ m z o e. inl (o, e))
   ended_sound_at (Some p) ended none s = written_sound d d who x y (ended_desk keep n) sound le at ended s (ended_was d keep n)
 
-  pub ended_changes : (r : Option Out) → d ≡ old → OnSome r (y ≡ ended_desk keep n x) → OnSome r (ChangesDesk old (record { desks = set d.desks who y; doomed = d.doomed }) who (ended_desk keep n))
+  pub ended_changes : (r : Option Out) → d ≡ old → OnSome r (y ≡ ended_desk keep n x) → OnSome r (ChangesDesk old (record d { desks = set d.desks who y }) who (ended_desk keep n))
   ended_changes None same ended = tt
   ended_changes (Some p) same ended = written_changes d old who x y (ended_desk keep n) sound le at ended same
 
@@ -139,11 +139,11 @@ touched_apart n old new c one q w v o p a b =
       back None o e = absurd (cc)
       back (Some p) o e = (p, refl)
 
-pub touched_sound : (n : Name) (d : DesksState) → AreDesksSound d → AreDesksSound (record { desks = map (touched_desk n) d.desks; doomed = d.doomed })
+pub touched_sound : (n : Name) (d : DesksState) → AreDesksSound d → AreDesksSound (record d { desks = map (touched_desk n) d.desks })
 touched_sound n d s = record {
   seats = length-map d.desks (touched_desk n) ∙ s.seats;
   each = All-map IsDeskSound (touched_desk n) d.desks (All-weaker IsDeskSound (λ x. IsDeskSound (touched_desk n x)) (touched_desk_sound n) d.desks s.each);
-  apart = touched_apart n d (record { desks = map (touched_desk n) d.desks; doomed = d.doomed }) (λ w. slice_get-map (touched_desk n) d.desks w) s.apart;
+  apart = touched_apart n d (record d { desks = map (touched_desk n) d.desks }) (λ w. slice_get-map (touched_desk n) d.desks w) s.apart;
   once = s.once;
 }
 
@@ -160,16 +160,16 @@ none_below d who n le below k = elim (cases_lt k who) [
   | inr ge ↦ ap (out_look n) (slice_get_past d.desks k (omega (arith, le, ge)))
 ]
 
--- the doomed names may be any, each once
-pub doomed_sound : (d : DesksState) (names : List Name) → AreDesksSound d → IsDistinct same_name names → AreDesksSound (record { desks = d.desks; doomed = names })
-doomed_sound d names s once = record { seats = s.seats; each = s.each; apart = s.apart; once = once }
+-- the doomed names may be any, each once, and the room for more
+pub doomed_sound : (d : DesksState) (names : List Name) (room : ℕ) → AreDesksSound d → IsDistinct same_name names → AreDesksSound (record { desks = d.desks; doomed = names; room = room })
+doomed_sound d names room s once = record { seats = s.seats; each = s.each; apart = s.apart; once = once }
 
 -- a caller's desk is there
 pub desk_there : (d : DesksState) (who : ℕ) → AreDesksSound d → who ≤ 16 → (x : DeskState) × (desk_at d who ≡ Some x)
 desk_there d who s le = (_, slice_get-get_or d.desks who empty_desk (let k = s.seats in omega (arith, k, le)))
 
 -- each desk is empty
-pub empty_sound : (k : ℕ) (names : List Name) → k ≡ 17 → IsDistinct same_name names → AreDesksSound (record { desks = replicate k empty_desk; doomed = names })
+pub empty_sound : (k : ℕ) (names : List Name) → k ≡ 17 → IsDistinct same_name names → AreDesksSound (record { desks = replicate k empty_desk; doomed = names; room = 0 })
 empty_sound k names is once = record {
   seats = length-replicate k empty_desk ∙ is;
   each = All-replicate IsDeskSound k empty_desk empty_desk_sound;

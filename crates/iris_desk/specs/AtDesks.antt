@@ -1,5 +1,5 @@
 -- What a contract sees of all desks, and the words on them.
-use Rattle.std.specs.Prelude.{ℕ, ◌≡◌, ◌==◌, Bool, false, if◌then◌else◌, List, length, map, All, Option, Some, slice_get, find}
+use Rattle.std.specs.Prelude.{ℕ, ◌≡◌, ◌≤◌, ◌==◌, Bool, false, if◌then◌else◌, List, length, map, All, Option, Some, slice_get, find}
 use Rattle.std.specs.Option.{option_map, option_and_then, option_map_or}
 use Rattle.std.specs.List.{list_any, flat_map, enumerate_from, IsDistinct}
 use Rattle.iris_name.specs.Names.{same_name}
@@ -9,10 +9,11 @@ use Rattle.iris_desk.specs.declared.out.Out.{Out}
 use Rattle.iris_desk.specs.Outs.{out_in}
 use Rattle.iris_desk.specs.AtDesk.{DeskState, keeps_name, IsDeskSound}
 
--- the desks, one for each caller, and the names that are doomed: deleted, and not yet discarded from the store
+-- the desks, one for each caller, the names that are doomed: deleted, and not yet discarded from the store, and how many names more are sure to be doomed with no memory
 pub record DesksState : Type 0 where
   pub desks : List DeskState
   pub doomed : List Name
+  pub room : ℕ
 
 -- a caller's desk
 abbrev pub desk_at : DesksState → ℕ → Option DeskState
@@ -55,3 +56,8 @@ pub record AreDesksSound (d : DesksState) : Type 0 where
   pub apart : (n : Name) (w v : ℕ) (o p : Out) → out_for d w n ≡ Some o → out_for d v n ≡ Some p → w ≡ v
   -- each name is doomed once
   pub once : IsDistinct same_name d.doomed
+
+-- What all desks keep in their fields: room for so many names more to doom.
+pub record AreDesksKept (d : DesksState) (free : ℕ) : Type 0 where
+  pub sound : AreDesksSound d
+  pub room : d.room ≤ free

@@ -1,6 +1,6 @@
 //! The desks of all callers, and the doomed names.
 
-ghost use Rattle.std.specs.Prelude.{ℕ, ◌≡◌, ◌≤◌, ◌+◌, true, false, Some, None, IfSome, IfNone, IfOk, OnSome, OnOk, OnErr, length, map, replicate, if◌then◌else◌};
+ghost use Rattle.std.specs.Prelude.{ℕ, ◌≡◌, ◌≤◌, ◌<◌, ◌+◌, true, false, Some, None, IfSome, IfNone, IfOk, OnSome, OnOk, OnErr, length, map, replicate, if◌then◌else◌};
 ghost use Rattle.std.specs.Option.{option_copied, option_map};
 ghost use Rattle.std.specs.List.{IsDistinct};
 ghost use Rattle.iris_name.specs.Names.{same_name};
@@ -24,17 +24,22 @@ pub const CALLERS: usize = 17;
 pub struct Desks {
     desks: Vec<Desk>,
     doomed: IndexSet<Name>,
+    // How many names more are sure to fit into `doomed`.
+    room: u32,
 }
 
 impl Model for Desks {
-    ghost use Rattle.iris_desk.specs.AtDesks.{DesksState, AreDesksSound};
+    ghost use Rattle.iris_desk.specs.AtDesks.{DesksState, AreDesksKept};
+    ghost use Rattle.indexmap.specs.IndexSet.{spare};
 
     ghost Value = { DesksState };
 
-    ghost view = { λ a. record { desks = a.desks.items; doomed = a.doomed.keys } };
+    ghost view = { λ a.
+        record { desks = a.desks.items; doomed = a.doomed.keys; room = a.room } };
 
-    ghost invariant = { λ a.
-        AreDesksSound (record { desks = a.desks.items; doomed = a.doomed.keys }) };
+    ghost invariant = { λ a. AreDesksKept
+        (record { desks = a.desks.items; doomed = a.doomed.keys; room = a.room })
+        (spare a.doomed) };
 }
 
 impl Desks {
@@ -47,6 +52,7 @@ impl Desks {
         Ok(Desks {
             desks,
             doomed: IndexSet::new(alloc),
+            room: 0,
         })
     }
 
@@ -103,6 +109,7 @@ impl Desks {
         requires { who ≤ 16 }
         ensures desks { ChangesDesk self.old self.new who (asked_desk request) }
         ensures doomed { self.new.doomed ≡ self.old.doomed }
+        ensures room { self.new.room ≡ self.old.room }
     {
         let desk = &mut self.desks[who as usize];
         desk.ask(request);
@@ -114,6 +121,7 @@ impl Desks {
         ensures answer { result ≡ asked_by self.old who }
         ensures desks { ChangesDesk self.old self.new who entered_desk }
         ensures doomed { self.new.doomed ≡ self.old.doomed }
+        ensures room { self.new.room ≡ self.old.room }
     {
         let desk = &mut self.desks[who as usize];
         desk.enter()
@@ -127,6 +135,7 @@ impl Desks {
         requires untouched { out.touched ≡ false }
         ensures desks { OnOk result (ChangesDesk self.old self.new who (begun_desk out)) }
         ensures doomed { self.new.doomed ≡ self.old.doomed }
+        ensures room { self.new.room ≡ self.old.room }
         ensures err { OnErr result (self.new ≡ self.old) }
     {
         let desk = &mut self.desks[who as usize];
@@ -142,6 +151,7 @@ impl Desks {
         ensures desks { OnSome result (ChangesDesk self.old self.new who
             (ended_desk keep name.now)) }
         ensures doomed { self.new.doomed ≡ self.old.doomed }
+        ensures room { self.new.room ≡ self.old.room }
         ensures none { IfNone result (self.new ≡ self.old) }
     {
         let desk = &mut self.desks[who as usize];
@@ -153,6 +163,7 @@ impl Desks {
         ensures desks { (w : ℕ) →
             desk_at self.new w ≡ option_map (touched_desk name.now) (desk_at self.old w) }
         ensures doomed { self.new.doomed ≡ self.old.doomed }
+        ensures room { self.new.room ≡ self.old.room }
     {
         touch_at_each(self.desks.as_mut_slice(), name);
     }
@@ -164,10 +175,41 @@ impl Desks {
             is_doomed self.new q ≡ (if same_name name.now q then true else is_doomed self.old q)) }
         ensures count { OnOk result (length self.new.doomed ≡
             length self.old.doomed + (if is_doomed self.old name.now then 0 else 1)) }
+        ensures room { self.old.room ≤ self.new.room + 1 }
         ensures err { OnErr result (self.new ≡ self.old) }
     {
         self.doomed.insert(*name)?;
+        self.room = self.room.saturating_sub(1);
         Ok(())
+    }
+
+    /// Makes room to doom so many names more without memory.
+    pub fn room_to_doom(&mut self, count: u32) -> Result<(), NoMemory>
+        ensures desks { self.new.desks ≡ self.old.desks }
+        ensures doomed { self.new.doomed ≡ self.old.doomed }
+        ensures room { self.old.room ≤ self.new.room }
+        ensures ok { OnOk result (count ≤ self.new.room) }
+        ensures err { OnErr result (self.new ≡ self.old) }
+    {
+        self.doomed.reserve(count as usize)?;
+        self.room = self.room.max(count);
+        Ok(())
+    }
+
+    /// Dooms a name where there is room to. It takes no memory.
+    pub fn doom_in_room(&mut self, name: &Name)
+        requires { 0 < self.old.room }
+        ensures desks { self.new.desks ≡ self.old.desks }
+        ensures doomed { (q : SpecName) →
+            is_doomed self.new q ≡ (if same_name name.now q then true else is_doomed self.old q) }
+        ensures count { length self.new.doomed ≡
+            length self.old.doomed + (if is_doomed self.old name.now then 0 else 1) }
+        ensures room { self.old.room ≤ self.new.room + 1 }
+    {
+        match self.doomed.insert(*name) {
+            Ok(_) => self.room -= 1,
+            Err(_) => unreachable!(),
+        }
     }
 
     /// Dooms a name no longer.
@@ -177,6 +219,7 @@ impl Desks {
             is_doomed self.new q ≡ (if same_name name.now q then false else is_doomed self.old q) }
         ensures count { length self.new.doomed +
             (if is_doomed self.old name.now then 1 else 0) ≡ length self.old.doomed }
+        ensures room { self.old.room ≤ self.new.room }
     {
         self.doomed.swap_remove(name);
     }

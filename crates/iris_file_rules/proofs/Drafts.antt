@@ -12,26 +12,28 @@ use Rattle.iris_mac.specs.declared.keys.Keys.{Keys}
 use Rattle.iris_name.specs.declared.name.Name.{Name}
 use Rattle.iris_name.specs.declared.name.Name.TheVariants.{Entry, Part, Block}
 use Rattle.iris_name.specs.History.{Past, Stamped}
-use Rattle.iris_node.specs.Trees.{IsTree, IsNodeName}
-use Rattle.iris_file_rules.specs.DraftLaws.{shown_after, IsWellFormed, AreDrafted, FitsHeld, DraftsMove}
-use Rattle.iris_table_laws.proofs.TreeOfTable.{is_tree}
-use Rattle.iris_file_rules.proofs.OneBlock.{sound}
+use Rattle.iris_node.specs.Trees.{IsNodeName}
+use Rattle.iris_file_rules.specs.DraftLaws.{AreDrafted, FitsHeld, DraftsMove}
 use Rattle.iris_file_rules.specs.FileTable.{files}
-use Rattle.iris_file_rules.specs.Rules.{files_after}
-
--- what a past's table shows is a tree, since each such table is sound
-tree : (keys : Keys) (past : Past) → IsTree (shown_after keys past)
-tree keys past = is_tree keys.order (files_after keys past) (sound keys past)
+use Rattle.iris_file_rules.specs.Rules.{shown_after}
+use Rattle.iris_file_rules.specs.TableLaws.{IsWellFormed}
+use Rattle.iris_file_rules.proofs.SoundTables.{well_formed}
 
 module _ (keys : Keys) (past : Past) (x : Stamped) (c e : Resident) (b f : Paged) (doomed : Name → Bool) (out : Name → Option Out)
-    (before : IsWellFormed (shown_after keys past)) (after : IsWellFormed (shown_after keys (x ∷ past))) (g : AreDrafted (shown_after keys past) (shown_after keys (x ∷ past)) c e b f) (fit : FitsHeld c b doomed out) where
+    (g : AreDrafted (shown_after keys past) (shown_after keys (x ∷ past)) c e b f) (fit : FitsHeld c b doomed out) where
+  before : IsWellFormed (shown_after keys past)
+  before = well_formed keys past
+
+  after : IsWellFormed (shown_after keys (x ∷ past))
+  after = well_formed keys (x ∷ past)
+
   node_moves : (n : Name) → IsNodeName n
       → Moved (files keys) past x n (cell_of (held_node c n) (doomed n) (out n)) (cell_of (held_node e n) (redoomed (held_node c n) (held_node e n) (doomed n)) (option_map (touched_if (held_touched (held_node c n) (held_node e n))) (out n)))
   node_moves n is = nodes_move (files keys) past x n (held_node c n) (held_node e n) (doomed n) (out n)
       (nodes_are_held (shown_after keys past) (shown_after keys (x ∷ past)) g.draft c e n (doomed n) g.drafts (g.lands n)
-      (apply-keeps (shown_after keys past) (shown_after keys (x ∷ past)) g.draft c e g.drafts (tree keys past) (tree keys (x ∷ past)) before.formed after.formed g.lands) is (fit.nodes n is).1)
+      (apply-keeps (shown_after keys past) (shown_after keys (x ∷ past)) g.draft c e g.drafts before.tree after.tree before.formed after.formed g.lands) is (fit.nodes n is).1)
       (fit.nodes n is).0
-      (apply-marks (shown_after keys past) (shown_after keys (x ∷ past)) g.draft c e g.drafts (tree keys past) (tree keys (x ∷ past)) before.formed after.formed before.apart g.lands n is)
+      (apply-marks (shown_after keys past) (shown_after keys (x ∷ past)) g.draft c e g.drafts before.tree after.tree before.formed after.formed before.apart g.lands n is)
 
   block_moves : (n : Name) → IsBlock n
       → Moved (files keys) past x n (cell_of_page (held_page b n) (doomed n) (out n)) (cell_of_page (held_page f n) (redoomed (held_page b n) (held_page f n) (doomed n)) (option_map (touched_if (page_touched (held_page b n) (held_page f n))) (out n)))
@@ -41,6 +43,6 @@ module _ (keys : Keys) (past : Past) (x : Stamped) (c e : Resident) (b f : Paged
       (pages_mark (shown_after keys past) (shown_after keys (x ∷ past)) g.pages b f g.changes g.landed n is)
 
 pub drafts_move : DraftsMove
-drafts_move keys past x c e b f doomed out before after g fit (Entry i) = node_moves keys past x c e b f doomed out before after g fit (Entry i) tt
-drafts_move keys past x c e b f doomed out before after g fit (Part h l i) = node_moves keys past x c e b f doomed out before after g fit (Part h l i) tt
-drafts_move keys past x c e b f doomed out before after g fit (Block h p) = block_moves keys past x c e b f doomed out before after g fit (Block h p) tt
+drafts_move keys past x c e b f doomed out g fit (Entry i) = node_moves keys past x c e b f doomed out g fit (Entry i) tt
+drafts_move keys past x c e b f doomed out g fit (Part h l i) = node_moves keys past x c e b f doomed out g fit (Part h l i) tt
+drafts_move keys past x c e b f doomed out g fit (Block h p) = block_moves keys past x c e b f doomed out g fit (Block h p) tt

@@ -33,7 +33,8 @@ use Rattle.iris_table_laws.specs.Texts.{HasTexts}
 use Rattle.iris_table_laws.specs.TextsStay.{IsOfTexts}
 use Rattle.iris_table_laws.proofs.Grammar as grammar
 use Rattle.iris_table_laws.proofs.TextNames as texting
-use Rattle.iris_file_rules.specs.FileTable.{files, SpellsNode}
+use Rattle.iris_file_rules.specs.FileTable.{files}
+use Rattle.iris_node.specs.Spelling.{SpellsNode}
 use Rattle.iris_invariant.specs.Readings.{Spells}
 use Rattle.iris_file_rules.proofs.OneBlock.{shown_block, sound, either_some}
 
@@ -144,7 +145,7 @@ of_texts (Probe at) h = tt
 
 module _ (keys : Keys) (r : Rules) where
   -- the names of a legal history's table are texts
-  texts : (past : Past) → IsLegal (files keys) r past → HasTexts (table_of (files keys) past)
+  pub texts : (past : Past) → IsLegal (files keys) r past → HasTexts (table_of (files keys) past)
   texts [] legal = texting.texts_begin
   texts (x ∷ past) legal = by x.note x.opened (begun past x) legal.0 (texts past legal.1) where
     by : (note : Note) (opened : ℕ) (at : Past) → IsLawful (files keys) r opened past at note → HasTexts (table_of (files keys) past) → HasTexts (after_note (files keys) (table_of (files keys) past) note)

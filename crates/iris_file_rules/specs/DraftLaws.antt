@@ -2,32 +2,21 @@
 -- statement.
 use Rattle.std.specs.Prelude.{◌≡◌, ◌∷◌, Bool, false, Option, IsSome, option_map}
 use Rattle.iris_blocks.specs.Changes.{PageDrafted, change_of, landed_page}
+use Rattle.iris_blocks.specs.Laws.{ChangesEach}
 use Rattle.iris_blocks.specs.Paged.{Paged, held_page, IsBlock, Shows}
 use Rattle.iris_cache.specs.Applied.{Lands}
 use Rattle.iris_cache.specs.Drafted.{Drafted}
-use Rattle.iris_cache.specs.Laws.{AreFormed, HaveApart}
 use Rattle.iris_cache.specs.Pictures.{Drafts}
 use Rattle.iris_cache.specs.Resident.{Resident, held_node}
 use Rattle.iris_invariant.specs.Agrees.{Out, Cell}
-use Rattle.iris_invariant.specs.CellLaws.{ChangesEach}
 use Rattle.iris_invariant.specs.Cells.{cell_at, doomed_at, is_touched_at, touched_if, Tied, TiedPage}
 use Rattle.iris_invariant.specs.Events.{Moved}
 use Rattle.iris_mac.specs.declared.keys.Keys.{Keys}
 use Rattle.iris_name.specs.declared.name.Name.{Name}
 use Rattle.iris_name.specs.History.{Past, Stamped}
 use Rattle.iris_node.specs.Trees.{Shown, IsNodeName}
-use Rattle.iris_records.specs.Shown.{shown}
 use Rattle.iris_file_rules.specs.FileTable.{files}
-use Rattle.iris_file_rules.specs.Rules.{files_after}
-
--- what the names stand for after a past
-abbrev pub shown_after : Keys → Past → Shown
-shown_after keys past = shown keys.order (files_after keys past)
-
--- What every sound table shows, besides that it is a tree.
-pub record IsWellFormed (t : Shown) : Type 0 where
-  pub formed : AreFormed t
-  pub apart : HaveApart t
+use Rattle.iris_file_rules.specs.Rules.{shown_after}
 
 -- Cache and resident blocks before, which picture and show the table, and what `apply` makes of each by drafts that lead to the
 -- table after.
@@ -55,5 +44,5 @@ cell_after c e b f doomed out n = cell_at n (held_node e n) (held_page f n) (doo
 
 abbrev pub DraftsMove : Type 0
 DraftsMove = (keys : Keys) (past : Past) (x : Stamped) (c e : Resident) (b f : Paged) (doomed : Name → Bool) (out : Name → Option Out)
-    → IsWellFormed (shown_after keys past) → IsWellFormed (shown_after keys (x ∷ past)) → AreDrafted (shown_after keys past) (shown_after keys (x ∷ past)) c e b f → FitsHeld c b doomed out
+    → AreDrafted (shown_after keys past) (shown_after keys (x ∷ past)) c e b f → FitsHeld c b doomed out
     → (n : Name) → Moved (files keys) past x n (cell_before c b doomed out n) (cell_after c e b f doomed out n)

@@ -13,7 +13,8 @@ use Rattle.iris_cache.specs.Pictures.{IsHashOf}
 use Rattle.iris_invariant.specs.Agrees.{IsTrueOf}
 use Rattle.iris_invariant.specs.Readings.{OneBlock, Spells}
 use Rattle.iris_invariant.specs.Saves.{Saved}
-use Rattle.iris_file_rules.specs.FileTable.{files, SpellsNode, is_root_name}
+use Rattle.iris_file_rules.specs.FileTable.{files, is_root_name}
+use Rattle.iris_node.specs.Spelling.{SpellsNode}
 use Rattle.iris_file_rules.specs.Rules.{file_rules}
 
 -- a sync and a root hash reach no name

@@ -13,6 +13,7 @@ use Rattle.iris_history.specs.Kept.{table_of}
 use Rattle.iris_history.specs.Legal.{Rules, IsLegal, IsBad}
 use Rattle.iris_history.specs.Status.{IsDirty}
 use Rattle.iris_file_rules.specs.FileTable.{files}
+use Rattle.iris_node.specs.Trees.{Shown}
 use Rattle.iris_plain.specs.Checks.{is_full}
 use Rattle.iris_rows.specs.Standing.{StandsInTable}
 use Rattle.iris_records.specs.Challenges.{table_walk}
@@ -25,6 +26,10 @@ use Rattle.iris_file_rules.specs.Reach.{Reaches}
 -- the table after a past
 abbrev pub files_after : Keys → Past → Table
 files_after keys past = table_of (files keys) past
+
+-- and what its names stand for
+abbrev pub shown_after : Keys → Past → Shown
+shown_after keys past = shown keys.order (files_after keys past)
 
 -- the right replies: a sync is answered where no name is dirty, and all else as the table answers
 abbrev pub FileReplies : Keys → Past → Request → Reply → Type 0

@@ -5,10 +5,22 @@
 
 ghost use Rattle.iris_file_rules.specs.DraftLaws.{DraftsMove};
 ghost use Rattle.iris_file_rules.specs.Laws.{UpkeepReachesNothing, VersionsStandForOneBlock, TrueRecordsPass, TrueHashesAreExpected, FreshIsSaved};
+ghost use Rattle.iris_file_rules.specs.TableLaws.{TablesAreSound, TablesAreWellFormed, TablesHaveTexts};
 
 /// A sync and a root hash reach no name.
 pub fn upkeep_reaches_nothing()
     ensures { UpkeepReachesNothing }
+{}
+
+/// After any past the table is sound, and what it shows is a tree, formed and apart.
+pub fn tables_are_sound()
+    ensures sound { TablesAreSound }
+    ensures formed { TablesAreWellFormed }
+{}
+
+/// After a legal past the names of the table are UTF-8.
+pub fn tables_have_texts()
+    ensures { TablesHaveTexts }
 {}
 
 /// In one history a block's name and version stand for one block.

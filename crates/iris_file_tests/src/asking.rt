@@ -2,30 +2,40 @@
 
 ghost use Rattle.std.specs.Prelude.{◌≤◌, ◌<◌};
 
-use crate::dice::Dice;
 use crate::filling::some_bytes;
 use iris_name::{Request, Text};
+use iris_testing::dice::Dice;
+use iris_testing::planning::text;
 use std::alloc::Global;
 use std::test::Fail;
+
+fn some_letter(dice: &mut Dice) -> char {
+    (b'a' + dice.roll(6) as u8) as char
+}
 
 // A name of one letter.
 fn some_name(alloc: Global, dice: &mut Dice) -> Result<Text, Fail> {
     let mut words = String::new(alloc);
-    words.push((b'a' + dice.roll(6) as u8) as char)?;
+    words.push(some_letter(dice))?;
     Ok(Text::of(words))
+}
+
+// One of the last few paths that were there once, or the root's, as an empty text.
+fn some_past<'a>(dice: &mut Dice, met: &'a [Text]) -> &'a str {
+    let back = dice.roll(met.len().saturating_add(1).min(9) as u32) as usize;
+    if back > 0 && back <= met.len() {
+        return met[met.len() - back].as_str();
+    }
+    ""
 }
 
 // One of the last few paths that were there once, or one more step from there, or from the root.
 fn some_path(alloc: Global, dice: &mut Dice, met: &[Text]) -> Result<Text, Fail> {
-    let mut words = String::new(alloc);
-    let back = dice.roll(met.len().saturating_add(1).min(9) as u32) as usize;
-    if back > 0 && back <= met.len() {
-        words.push_str(met[met.len() - back].as_str())?;
+    let past = some_past(dice, met);
+    if !past.is_empty() && dice.roll(4) > 0 {
+        return text(alloc, past);
     }
-    if words.is_empty() || dice.roll(4) == 0 {
-        words.push('/')?;
-        words.push((b'a' + dice.roll(6) as u8) as char)?;
-    }
+    let words = format!(in alloc; "{past}/{}", some_letter(dice))?;
     Ok(Text::of(words))
 }
 

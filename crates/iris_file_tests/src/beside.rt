@@ -2,15 +2,18 @@
 
 use crate::asking::{keep, some_filling, some_request};
 use crate::comparing::{are_blocks_recorded, are_changes, block_in, holds};
-use crate::dice::Dice;
-use crate::fetching::{fetch, record_of};
-use crate::keeping::{are_recorded, let_some_go, settle_all};
-use crate::planning::{Ground, Plan, planned};
-use iris_blocks::{Blocks, PageDraft};
-use iris_cache::{Cache, Draft, Short};
+use crate::planning::planned;
+use iris_blocks::Blocks;
+use iris_cache::{Cache, Short};
 use iris_mac::{Keys, passes};
 use iris_name::{Bytes, Expect, FileId, Name, PAGE_LEN, Page, Reply, Request, Text};
+use iris_requests::{Counters, Planned};
 use iris_table::Table;
+use iris_testing::blocks::put_block;
+use iris_testing::dice::Dice;
+use iris_testing::fetching::{fetch, record_of};
+use iris_testing::keeping::{are_recorded, let_some_go, settle_and_clean};
+use iris_testing::planning::ROOT;
 use std::alloc::Global;
 use std::test::Fail;
 
@@ -23,6 +26,7 @@ struct Beside {
     records: Vec<(Name, Bytes)>,
     cache: Cache,
     blocks: Blocks,
+    counters: Counters,
     met: Vec<Text>,
     fetched: u32,
     gone: u32,
@@ -32,11 +36,24 @@ struct Beside {
 // What a plan comes to.
 #[derive(Drop)]
 enum Tried {
-    Made(Reply, Plan),
+    Made(Planned),
     Lacks(Name, Expect),
 }
 
-// Asks a table for this and that, and keeps the paths that it made.
+// Asks a table for something, and keeps the path that it made.
+fn fill_once(
+    alloc: Global,
+    table: &mut Table,
+    met: &mut Vec<Text>,
+    dice: &mut Dice,
+) -> Result<(), Fail> {
+    let request = some_filling(alloc, dice, met.as_slice())?;
+    match table.step(alloc, &request)? {
+        Reply::Done => keep(alloc, met, &request),
+        _ => Ok(()),
+    }
+}
+
 fn fill(
     alloc: Global,
     table: &mut Table,
@@ -44,10 +61,7 @@ fn fill(
     dice: &mut Dice,
 ) -> Result<(), Fail> {
     for _ in 0..60 {
-        let request = some_filling(alloc, dice, met.as_slice())?;
-        if table.step(alloc, &request)? == Reply::Done {
-            keep(alloc, met, &request)?;
-        }
+        fill_once(alloc, table, met, dice)?;
     }
     Ok(())
 }
@@ -58,12 +72,17 @@ fn set_up(alloc: Global, dice: &mut Dice) -> Result<Beside, Fail> {
     let mut met = Vec::new(alloc);
     fill(alloc, &mut table, &mut met, dice)?;
     let records = table.records_of(alloc, &keys)?;
+    let counters = Counters {
+        next: next_id(records.as_slice()),
+        age: 0,
+    };
     Ok(Beside {
         keys,
         table,
         records,
         cache: Cache::new(alloc),
         blocks: Blocks::new(alloc),
+        counters,
         met,
         fetched: 0,
         gone: 0,
@@ -72,36 +91,58 @@ fn set_up(alloc: Global, dice: &mut Dice) -> Result<Beside, Fail> {
 }
 
 // The id after all that are live. Nothing is reclaimed here.
-fn next_id(records: &[(Name, Bytes)]) -> FileId {
+fn next_id(records: &[(Name, Bytes)]) -> u64 {
     let mut most = 1u64;
     for (name, _) in records {
         if let Name::Entry { id } = name {
             most = most.max(id.0);
         }
     }
-    FileId(most.saturating_add(1))
+    most.saturating_add(1)
 }
 
 // Plans a request once.
 fn attempt(alloc: Global, beside: &Beside, request: &Request) -> Result<Tried, Fail> {
-    let mut plan = Plan {
-        draft: Draft::new(alloc),
-        pages: PageDraft::new(alloc),
-    };
-    let ground = Ground {
-        keys: &beside.keys,
-        cache: &beside.cache,
-        blocks: &beside.blocks,
-        next: next_id(beside.records.as_slice()),
-    };
-    match planned(alloc, &mut plan, &ground, request) {
-        Ok(reply) => Ok(Tried::Made(reply, plan)),
+    match planned(
+        alloc,
+        &beside.keys,
+        &beside.cache,
+        &beside.blocks,
+        beside.counters,
+        request,
+    ) {
+        Ok(planned) => Ok(Tried::Made(planned)),
         Err(Short::Need { name, expect }) => Ok(Tried::Lacks(name, expect)),
         Err(Short::NoMemory) => Err("there is no memory".into()),
     }
 }
 
-// Takes a block in that a plan lacks, from a record that passes in the version that it expects.
+// A block of these bytes.
+fn page_of(alloc: Global, block: &[u8]) -> Result<Page, Fail> {
+    if block.len() != PAGE_LEN {
+        return Err("another length".into());
+    }
+    Ok(Page::of(alloc, block)?)
+}
+
+// The block of a record that passes in the version that a plan expects.
+fn recorded_block(
+    alloc: Global,
+    beside: &Beside,
+    file: FileId,
+    place: u32,
+    version: u64,
+) -> Result<Page, Fail> {
+    let name = Name::Block { file, place };
+    let record = record_of(beside.records.as_slice(), &name).ok_or("a block that isn't live")?;
+    if !passes(&beside.keys, file, place, version, record) {
+        return Err("another version".into());
+    }
+    let block = block_in(record).ok_or("a record of a block")?;
+    page_of(alloc, block)
+}
+
+// Takes a block in that a plan lacks.
 fn fetch_block(
     alloc: Global,
     beside: &mut Beside,
@@ -109,31 +150,8 @@ fn fetch_block(
     place: u32,
     version: u64,
 ) -> Result<(), Fail> {
-    let name = Name::Block { file, place };
-    let record = record_of(beside.records.as_slice(), &name).ok_or("a block that isn't live")?;
-    holds(
-        passes(&beside.keys, file, place, version, record),
-        "another version",
-    )?;
-    let block = block_in(record).ok_or("a record of a block")?;
-    put_block(alloc, &mut beside.blocks, file, place, version, block)
-}
-
-fn put_block(
-    alloc: Global,
-    blocks: &mut Blocks,
-    file: FileId,
-    place: u32,
-    version: u64,
-    block: &[u8],
-) -> Result<(), Fail> {
-    if blocks.held(file, place).is_some() || block.len() != PAGE_LEN {
-        return Err("it is resident".into());
-    }
-    let page = Page::of(alloc, block)?;
-    blocks.room(file, place)?;
-    blocks.insert(file, place, version, page, 0);
-    Ok(())
+    let page = recorded_block(alloc, beside, file, place, version)?;
+    put_block(&mut beside.blocks, file, place, version, page, 0)
 }
 
 // Takes in what a plan lacks, from the records before it.
@@ -151,13 +169,11 @@ fn supply(alloc: Global, beside: &mut Beside, name: &Name, expect: &Expect) -> R
     }
 }
 
-// The reply to a request, and what its plan changes.
-fn reply(alloc: Global, beside: &mut Beside, request: &Request) -> Result<(Reply, Plan), Fail> {
+// What a request is planned to, once it lacks nothing.
+fn made(alloc: Global, beside: &mut Beside, request: &Request) -> Result<Planned, Fail> {
     for _ in 0..1000 {
         match attempt(alloc, beside, request)? {
-            Tried::Made(reply, plan) => {
-                return Ok((reply, plan));
-            }
+            Tried::Made(planned) => return Ok(planned),
             Tried::Lacks(name, expect) => supply(alloc, beside, &name, &expect)?,
         }
     }
@@ -165,29 +181,38 @@ fn reply(alloc: Global, beside: &mut Beside, request: &Request) -> Result<(Reply
 }
 
 // Makes both drafts, and takes the pins off.
-fn land(beside: &mut Beside, plan: Plan) -> Result<(), Fail> {
-    let Plan { draft, pages } = plan;
+fn land(beside: &mut Beside, plan: Planned) -> Result<(), Fail> {
+    let Planned {
+        draft,
+        pages,
+        counters,
+        ..
+    } = plan;
     beside.cache.room_for(&draft)?;
     beside.blocks.room_for(&pages)?;
     beside.cache.apply(draft);
     beside.blocks.apply(pages);
     beside.cache.release(0);
     beside.blocks.release(0);
+    beside.counters = counters;
     Ok(())
 }
 
-// Sends the dirty blocks out one by one, and takes them back clean.
+// Sends the dirty blocks out one by one, and takes them back clean: each time one less is dirty.
 fn clean_blocks(blocks: &mut Blocks) -> Result<(), Fail> {
     let dirty = blocks.dirty();
     for left in 0..dirty {
-        let (file, place) = blocks.dirty_block().ok_or("a dirty block")?;
-        clean_block(blocks, file, place)?;
-        holds(
-            blocks.dirty() == dirty - 1 - left,
-            "another count of dirty blocks",
-        )?;
+        clean_one(blocks)?;
+        if blocks.dirty() != dirty - 1 - left {
+            return Err("another count of dirty blocks".into());
+        }
     }
     holds(blocks.dirty_block().is_none(), "a block is left dirty")
+}
+
+fn clean_one(blocks: &mut Blocks) -> Result<(), Fail> {
+    let (file, place) = blocks.dirty_block().ok_or("a dirty block")?;
+    clean_block(blocks, file, place)
 }
 
 fn clean_block(blocks: &mut Blocks, file: FileId, place: u32) -> Result<(), Fail> {
@@ -221,20 +246,18 @@ fn let_blocks_go(blocks: &mut Blocks, dice: &mut Dice) -> Result<u32, Fail> {
 }
 
 // Compares what was planned of blocks, makes it, settles and cleans all, and compares records.
-fn compare(alloc: Global, beside: &mut Beside, plan: Plan) -> Result<(), Fail> {
+fn compare(alloc: Global, beside: &mut Beside, plan: Planned) -> Result<(), Fail> {
     let records = beside.table.records_of(alloc, &beside.keys)?;
     let before = beside.records.as_slice();
-    holds(
-        are_changes(&beside.keys, &plan.pages, before, records.as_slice()),
-        "other pages",
-    )?;
+    let changes = are_changes(&beside.keys, &plan.pages, before, records.as_slice());
     beside.records = records;
+    holds(changes && counts(beside, &plan), "other pages or counters")?;
     land(beside, plan)?;
     compare_resident(alloc, beside)
 }
 
 fn compare_resident(alloc: Global, beside: &mut Beside) -> Result<(), Fail> {
-    settle_all(alloc, &mut beside.cache)?;
+    settle_and_clean(&mut beside.cache, &ROOT)?;
     let records = beside.records.as_slice();
     let nodes = are_recorded(alloc, &beside.cache, records, None)?;
     let blocks = are_blocks_recorded(&beside.keys, &beside.blocks, records);
@@ -242,26 +265,51 @@ fn compare_resident(alloc: Global, beside: &mut Beside) -> Result<(), Fail> {
     clean_blocks(&mut beside.blocks)
 }
 
-// Asks both, and compares replies, and after a change the pages and the records.
-fn ask(alloc: Global, beside: &mut Beside, request: &Request) -> Result<(), Fail> {
-    let want = beside.table.step(alloc, request)?;
-    let (planned, plan) = reply(alloc, beside, request)?;
-    holds(planned == want, "another reply")?;
-    if want == Reply::Done {
-        beside.done = beside.done.saturating_add(1);
-        keep(alloc, &mut beside.met, request)?;
-        return compare(alloc, beside, plan);
+// Whether a plan tells the next id, and an age one higher if and only if it changes something.
+fn counts(beside: &Beside, plan: &Planned) -> bool {
+    let changes = u64::from(plan.draft.count() > 0);
+    plan.counters.next == next_id(beside.records.as_slice())
+        && plan.counters.age == beside.counters.age.wrapping_add(changes)
+}
+
+// A request that changed something: compares the pages and the records.
+fn follow(
+    alloc: Global,
+    beside: &mut Beside,
+    request: &Request,
+    plan: Planned,
+) -> Result<(), Fail> {
+    beside.done = beside.done.saturating_add(1);
+    keep(alloc, &mut beside.met, request)?;
+    compare(alloc, beside, plan)
+}
+
+// A request that changed nothing: its plan may only have pinned.
+fn pass_over(beside: &mut Beside, plan: Planned) -> Result<(), Fail> {
+    if plan.draft.count() != 0 || plan.pages.count() != 0 {
+        return Err("a change without a reason".into());
     }
-    holds(
-        plan.draft.count() == 0 && plan.pages.count() == 0,
-        "a change without a reason",
-    )?;
     land(beside, plan)
 }
 
-fn round(alloc: Global, beside: &mut Beside, dice: &mut Dice) -> Result<(), Fail> {
+// Asks both, and compares replies, and after a change the pages and the records.
+fn ask(alloc: Global, beside: &mut Beside, request: &Request) -> Result<(), Fail> {
+    let want = beside.table.step(alloc, request)?;
+    let plan = made(alloc, beside, request)?;
+    holds(plan.reply == want, "another reply")?;
+    if want == Reply::Done {
+        return follow(alloc, beside, request, plan);
+    }
+    pass_over(beside, plan)
+}
+
+fn ask_some(alloc: Global, beside: &mut Beside, dice: &mut Dice) -> Result<(), Fail> {
     let request = some_request(alloc, dice, beside.met.as_slice())?;
-    ask(alloc, beside, &request)?;
+    ask(alloc, beside, &request)
+}
+
+fn round(alloc: Global, beside: &mut Beside, dice: &mut Dice) -> Result<(), Fail> {
+    ask_some(alloc, beside, dice)?;
     let blocks = let_blocks_go(&mut beside.blocks, dice)?;
     let nodes = let_some_go(alloc, &mut beside.cache, dice)?;
     beside.gone = beside.gone.saturating_add(blocks).saturating_add(nodes);

@@ -3,30 +3,26 @@
 use iris_blocks::{Blocks, PageDraft};
 use iris_cache::Stay;
 use iris_name::{FileId, Page};
+use iris_testing::blocks::{put_block, send_block, take_block_back};
 use std::alloc::Global;
 use std::test::Fail;
 
 const FILE: FileId = FileId(2);
 
-// So many blocks of one file, clean, and pinned for a caller.
-fn many(alloc: Global, count: u32) -> Result<Blocks, Fail> {
-    let mut blocks = Blocks::new(alloc);
-    for place in 0..count {
-        blocks.room(FILE, place)?;
-        take_in(alloc, &mut blocks, place)?;
-    }
-    Ok(blocks)
-}
-
-// Takes a page of zeros in.
+// Takes a page of zeros in, where there is room for it already. A caller pins it.
 fn take_in(alloc: Global, blocks: &mut Blocks, place: u32) -> Result<(), Fail> {
     let page = Page::zero(alloc)?;
     blocks.room(FILE, place)?;
-    if blocks.held(FILE, place).is_some() {
-        return Err("it is resident".into());
+    put_block(blocks, FILE, place, 1, page, 5)
+}
+
+// So many blocks of one file, clean.
+fn many(alloc: Global, count: u32) -> Result<Blocks, Fail> {
+    let mut blocks = Blocks::new(alloc);
+    for place in 0..count {
+        take_in(alloc, &mut blocks, place)?;
     }
-    blocks.insert(FILE, place, 1, page, 5);
-    Ok(())
+    Ok(blocks)
 }
 
 // Makes every third of so many blocks dirty.
@@ -38,22 +34,12 @@ fn mark_some(blocks: &mut Blocks, count: u32) {
     }
 }
 
-// A put of a block begins.
 fn send_out(blocks: &mut Blocks, place: u32) -> Result<(), Fail> {
-    match blocks.held(FILE, place) {
-        Some(held) if held.out.is_none() => blocks.begin(FILE, place, 4),
-        _ => return Err("something is out for it".into()),
-    }
-    Ok(())
+    send_block(blocks, FILE, place, 4)
 }
 
-// The put of a block ends well.
 fn take_back(blocks: &mut Blocks, place: u32) -> Result<(), Fail> {
-    match blocks.held(FILE, place) {
-        Some(held) if held.out.is_some() => blocks.finish(FILE, place, true),
-        _ => return Err("nothing is out for it".into()),
-    }
-    Ok(())
+    take_block_back(blocks, FILE, place)
 }
 
 // Sends every block out that waits. Tells how many.
@@ -82,17 +68,23 @@ fn empty(blocks: &mut Blocks) -> Result<u32, Fail> {
     Err("it goes on evicting".into())
 }
 
+// Takes the sent ones of so many blocks back, and lets them go.
+fn take_back_and_empty(blocks: &mut Blocks, count: u32) -> Result<u32, Fail> {
+    for place in 0..count {
+        if place % 3 == 0 {
+            take_back(blocks, place)?;
+        }
+    }
+    empty(blocks)
+}
+
 // 3,000 blocks, a third of them dirty: these are sent out, the others go, and then the sent ones, once they are back.
 fn sends_and_empties(blocks: &mut Blocks) -> Result<(u32, u32, u32), Fail> {
     let sent = send_all(blocks)?;
     blocks.release(5);
     let gone = empty(blocks)?;
-    for place in 0..3000 {
-        if place % 3 == 0 {
-            take_back(blocks, place)?;
-        }
-    }
-    Ok((sent, gone, empty(blocks)?))
+    let last = take_back_and_empty(blocks, 3000)?;
+    Ok((sent, gone, last))
 }
 
 #[test]
@@ -117,11 +109,17 @@ fn change(alloc: Global, blocks: &mut Blocks, place: u32) -> Result<(), Fail> {
     Ok(())
 }
 
-// A block that changes while its put is out is dirty afterwards, and then waits again.
-fn stays_dirty(alloc: Global) -> Result<bool, Fail> {
+// A dirty block whose put is out.
+fn dirty_and_out(alloc: Global) -> Result<Blocks, Fail> {
     let mut blocks = many(alloc, 1)?;
     change(alloc, &mut blocks, 0)?;
     send_out(&mut blocks, 0)?;
+    Ok(blocks)
+}
+
+// A block that changes while its put is out is dirty afterwards, and then waits again.
+fn stays_dirty(alloc: Global) -> Result<bool, Fail> {
+    let mut blocks = dirty_and_out(alloc)?;
     let waits = blocks.dirty_block().is_some();
     change(alloc, &mut blocks, 0)?;
     take_back(&mut blocks, 0)?;
@@ -142,11 +140,17 @@ fn stay_of(blocks: &mut Blocks) -> Option<Stay> {
     blocks.evict(FILE, 0).err()
 }
 
-// Out, then dirty, then pinned, then free to go.
-fn goes_at_last(alloc: Global) -> Result<bool, Fail> {
+// A clean block that is out, with room for it kept once more.
+fn clean_and_out(alloc: Global) -> Result<Blocks, Fail> {
     let mut blocks = many(alloc, 1)?;
     blocks.room(FILE, 0)?;
     send_out(&mut blocks, 0)?;
+    Ok(blocks)
+}
+
+// Out, then pinned, then free to go.
+fn goes_at_last(alloc: Global) -> Result<bool, Fail> {
+    let mut blocks = clean_and_out(alloc)?;
     let out = stay_of(&mut blocks);
     take_back(&mut blocks, 0)?;
     let pinned = stay_of(&mut blocks);

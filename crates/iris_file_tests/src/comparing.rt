@@ -1,9 +1,9 @@
 //! What a plan has changed of blocks, beside the records before and after.
 
-use crate::fetching::record_of;
 use iris_blocks::{Blocks, Change, PageDraft};
 use iris_mac::{Keys, passes};
 use iris_name::{Bytes, FileId, Name, PAGE_LEN};
+use iris_testing::fetching::record_of;
 use std::test::Fail;
 
 // The block in a record, where there is one.

@@ -2,12 +2,14 @@
 
 ghost use Rattle.std.specs.Prelude.{◌<◌, ◌≤◌};
 
-use crate::filling::{FILE, Filled, empty_file, land, read, some_bytes, write};
+use crate::filling::{Filled, empty_file, land, read, some_bytes, write};
 use iris_blocks::PageDraft;
 use iris_cache::Draft;
 use iris_files::plan_length;
 use iris_name::{Bytes, Page};
-use iris_version_tree::{is_file, plan_set};
+use iris_testing::blocks::put_block;
+use iris_testing::versions::{FILE, set_versions};
+use iris_version_tree::is_file;
 use std::alloc::Global;
 use std::test::Fail;
 
@@ -16,25 +18,12 @@ const FEW: u32 = 16;
 
 const MANY: u32 = 60_000;
 
-// Gives a place a version of its own, and the file a length up to it.
+// Gives a place a version of its own.
 fn written_once(alloc: Global, filled: &mut Filled, place: u32) -> Result<(), Fail>
     requires { place < 60000 }
 {
-    let mut draft = Draft::new(alloc);
-    if !is_file(&draft, &filled.cache, FILE) {
-        return Err("the file's entry is missing".into());
-    }
     let version = u64::from(place) + 1;
-    plan_set(
-        alloc,
-        &mut draft,
-        &filled.cache,
-        FILE,
-        place,
-        place + 1,
-        version,
-    )?;
-    land(filled, draft, PageDraft::new(alloc))
+    set_versions(alloc, &mut filled.cache, FILE, place, place + 1, version)
 }
 
 // Gives the file its length and its counter.
@@ -84,14 +73,8 @@ fn take_in(alloc: Global, filled: &mut Filled, count: u32) -> Result<(), Fail>
 
 fn take_in_one(alloc: Global, filled: &mut Filled, place: u32) -> Result<(), Fail> {
     let page = Page::zero(alloc)?;
-    filled.blocks.room(FILE, place)?;
-    if filled.blocks.held(FILE, place).is_some() {
-        return Err("it is resident".into());
-    }
-    filled
-        .blocks
-        .insert(FILE, place, u64::from(place) + 1, page, 0);
-    Ok(())
+    let version = u64::from(place) + 1;
+    put_block(&mut filled.blocks, FILE, place, version, page, 0)
 }
 
 // Writes the 16 blocks over, one by one. Tells how many places changed.
@@ -151,24 +134,23 @@ fn file_of_many(alloc: Global) -> Result<Filled, Fail> {
     Ok(filled)
 }
 
-fn costs_in_few(alloc: Global) -> Result<bool, Fail> {
+fn costs_in_few(alloc: Global, bytes: &Bytes) -> Result<bool, Fail> {
     let mut filled = file_of_few(alloc)?;
-    let bytes = some_bytes(alloc, 7, 4096)?;
-    let written = write_few(alloc, &mut filled, &bytes)?;
+    let written = write_few(alloc, &mut filled, bytes)?;
     Ok(written == 16 && read_few(alloc, &filled)? == 65_536)
 }
 
-fn costs_in_many(alloc: Global) -> Result<bool, Fail> {
+fn costs_in_many(alloc: Global, bytes: &Bytes) -> Result<bool, Fail> {
     let mut filled = file_of_many(alloc)?;
-    let bytes = some_bytes(alloc, 7, 4096)?;
-    let written = write_many(alloc, &mut filled, &bytes)?;
+    let written = write_many(alloc, &mut filled, bytes)?;
     Ok(written == 16 && read_many(alloc, &filled)? == 65_536)
 }
 
 // 16 blocks written over and read, in a file of 16 blocks and in one of 60,000.
 #[test]
 fn costs_of_one_block(rt: HostRuntime) -> Result<(), Fail> {
-    assert!(rt; costs_in_few(rt.alloc())?);
-    assert!(rt; costs_in_many(rt.alloc())?);
+    let bytes = some_bytes(rt.alloc(), 7, 4096)?;
+    assert!(rt; costs_in_few(rt.alloc(), &bytes)?);
+    assert!(rt; costs_in_many(rt.alloc(), &bytes)?);
     Ok(())
 }

@@ -2,22 +2,14 @@
 
 ghost use Rattle.std.specs.Prelude.{◌<◌, ◌≤◌, ◌+◌, length};
 
-use crate::fetching::take_in;
 use iris_blocks::{Blocks, PageDraft};
 use iris_cache::{Cache, Draft};
 use iris_files::{plan_read, plan_resize, plan_write};
-use iris_name::{Bytes, FileId};
+use iris_name::Bytes;
+use iris_testing::versions::{FILE, cache_of_a_file};
 use iris_version_tree::is_file;
 use std::alloc::Global;
 use std::test::Fail;
-
-pub(crate) const FILE: FileId = FileId(2);
-
-// The record of the empty file 2 named `a`.
-const RECORD: [u8; 39] = [
-    1, 2, 0, 0, 0, 0, 0, 0, 0, 2, 1, b'a', 0, 0, 0, 0, 0, 0, 0, 0, 0, 0, 0, 0, 0, 0, 0, 0, 0, 0, 0,
-    0, 0, 0, 0, 0, 0, 0, 0,
-];
 
 // A cache with the file's entry, and the blocks of it that are resident.
 #[derive(Drop)]
@@ -28,8 +20,7 @@ pub(crate) struct Filled {
 
 // The empty file.
 pub(crate) fn empty_file(alloc: Global) -> Result<Filled, Fail> {
-    let mut cache = Cache::new(alloc);
-    take_in(alloc, &mut cache, None, &RECORD)?;
+    let cache = cache_of_a_file(alloc)?;
     Ok(Filled {
         cache,
         blocks: Blocks::new(alloc),

@@ -12,13 +12,7 @@ mod comparing;
 #[cfg(test)]
 mod cost;
 #[cfg(test)]
-mod dice;
-#[cfg(test)]
-mod fetching;
-#[cfg(test)]
 mod filling;
-#[cfg(test)]
-mod keeping;
 #[cfg(test)]
 mod limits;
 #[cfg(test)]

@@ -14,11 +14,17 @@ fn are_all(bytes: &[u8], byte: u8) -> bool {
     bytes.iter().all(|own| *own == byte)
 }
 
+// Writes as many as there may be of one byte. Tells how many places changed.
+fn write_most(alloc: Global, filled: &mut Filled, offset: u64, byte: u8) -> Result<u32, Fail> {
+    let bytes = some_bytes(alloc, byte, MOST)?;
+    write(alloc, filled, offset, &bytes)
+}
+
 // A file of 64 blocks, written over from its second byte on: 65 places change.
 fn written_over(alloc: Global) -> Result<(Filled, u32, u32), Fail> {
     let mut filled = empty_file(alloc)?;
-    let first = write(alloc, &mut filled, 0, &some_bytes(alloc, 170, MOST)?)?;
-    let second = write(alloc, &mut filled, 1, &some_bytes(alloc, 187, MOST)?)?;
+    let first = write_most(alloc, &mut filled, 0, 170)?;
+    let second = write_most(alloc, &mut filled, 1, 187)?;
     Ok((filled, first, second))
 }
 
@@ -72,12 +78,19 @@ fn grows_without_a_block(rt: HostRuntime) -> Result<(), Fail> {
     Ok(())
 }
 
+// Gives a place another page.
+fn change(alloc: Global, pages: &mut PageDraft, place: u32) -> Result<(), Fail> {
+    let old = Page::zero(alloc)?;
+    let new = Page::zero(alloc)?;
+    pages.set(FileId(7), place, Some(old), Some((1, new)))?;
+    Ok(())
+}
+
 // A draft that gives so many places pages.
 fn many_changes(alloc: Global, count: u32) -> Result<PageDraft, Fail> {
     let mut pages = PageDraft::new(alloc);
     for place in 0..count {
-        let old = Page::zero(alloc)?;
-        pages.set(FileId(7), place, Some(old), Some((1, Page::zero(alloc)?)))?;
+        change(alloc, &mut pages, place)?;
     }
     Ok(pages)
 }

@@ -41,20 +41,36 @@ fn cuts_and_grows(alloc: Global, filled: &mut Filled) -> Result<bool, Fail> {
     Ok(cut == 1 && grown == 0 && zeros)
 }
 
+// A cut to one block, which is a hole.
+fn cuts_to_a_hole(alloc: Global, filled: &mut Filled) -> Result<bool, Fail> {
+    Ok(resize(alloc, filled, 4096)? == 1 && filled.blocks.count() == 0)
+}
+
+// A file whose gap was filled, and whether it read so.
+fn gapped(alloc: Global) -> Result<(Filled, bool), Fail> {
+    let mut filled = empty_file(alloc)?;
+    let fills = fills_the_gap(alloc, &mut filled)?;
+    Ok((filled, fills))
+}
+
 #[test]
 fn writes_reads_and_cuts(rt: HostRuntime) -> Result<(), Fail> {
-    let mut filled = empty_file(rt.alloc())?;
-    assert!(rt; fills_the_gap(rt.alloc(), &mut filled)?);
+    let (mut filled, fills) = gapped(rt.alloc())?;
+    assert!(rt; fills);
     assert!(rt; cuts_and_grows(rt.alloc(), &mut filled)?);
-    assert_eq!(rt; resize(rt.alloc(), &mut filled, 4096)?, 1);
-    assert_eq!(rt; filled.blocks.count(), 0);
+    assert!(rt; cuts_to_a_hole(rt.alloc(), &mut filled)?);
     Ok(())
+}
+
+fn write_last(alloc: Global, filled: &mut Filled) -> Result<u32, Fail> {
+    let bytes = some_bytes(alloc, 255, 1)?;
+    write(alloc, filled, 268_435_455, &bytes)
 }
 
 // The last byte that a file may have.
 fn ends_at_the_limit(alloc: Global) -> Result<bool, Fail> {
     let mut filled = empty_file(alloc)?;
-    let count = write(alloc, &mut filled, 268_435_455, &some_bytes(alloc, 255, 1)?)?;
+    let count = write_last(alloc, &mut filled)?;
     Ok(count == 1 && reads(alloc, &filled, 268_435_455, 9, &[255])?)
 }
 

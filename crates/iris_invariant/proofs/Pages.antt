@@ -15,7 +15,7 @@ use Rattle.iris_history.specs.Kept.{Kept}
 use Rattle.iris_history.proofs.Steady.{true_false}
 use Rattle.iris_invariant.specs.Agrees.{Out}
 use Rattle.iris_invariant.specs.CellLaws as l
-use Rattle.iris_invariant.specs.CellLaws.{IsHeldAsShown, LeftPage, ChangesEach}
+use Rattle.iris_invariant.specs.CellLaws.{IsHeldAsShown, LeftPage}
 use Rattle.iris_invariant.specs.Cells.{cell_of_page, page_touched, touched_if, TiedPage}
 use Rattle.iris_invariant.specs.Events.{touched, Still, Changed}
 use Rattle.iris_invariant.proofs.Cache.{gone_some, touched_anew, came_out}

@@ -1,10 +1,9 @@
 -- What a draft, an end and a pin make of the cells of nodes and blocks, as statements.
 use Rattle.std.specs.Prelude.{◌≡◌, ◌≢◌, ◌⊎◌, ◌∷◌, ◌&&◌, ◌==◌, ◌≤◌, ℕ, List, Bool, true, false, not, Option, Some, None, IsSome, IsNone, is_some, option_map, if◌then◌else◌}
-use Rattle.iris_blocks.specs.declared.draft.PageChange.{PageChange}
 use Rattle.iris_blocks.specs.declared.held.PageHeld.{PageHeld}
 use Rattle.iris_blocks.specs.Changes.{PageDrafted, change_of, landed_page}
 use Rattle.iris_blocks.specs.Held.{arrived_page, renewed, begun_page, finished_page, newcomer_page, pinned_page, unpinned_page}
-use Rattle.iris_blocks.specs.Laws.{ChangesTo}
+use Rattle.iris_blocks.specs.Laws.{ChangesEach}
 use Rattle.iris_blocks.specs.Paged.{Paged, held_page, IsBlock, Shows}
 use Rattle.iris_cache.specs.Applied.{Lands}
 use Rattle.iris_cache.specs.declared.held.Held.{Held}
@@ -48,12 +47,6 @@ LeftPage same None None = same
 LeftPage same None (Some h) = (same → ⊥) × (h ≡ arrived_page h.version h.page)
 LeftPage same (Some g) None = same → ⊥
 LeftPage same (Some g) (Some h) = (same × (h ≡ g)) ⊎ ((same → ⊥) × (h ≡ renewed h.version h.page g))
-
--- Each change of a draft changes what the table shows; and what it changes was resident, or a hole.
-pub record ChangesEach (t u : Shown) (d : PageDrafted) (b : Paged) : Type 0 where
-  pub to : ChangesTo t u d
-  pub differs : (n : Name) (change : PageChange) → change_of d n ≡ Some change → u n ≢ t n
-  pub held : (n : Name) (change : PageChange) → change_of d n ≡ Some change → IsSome (t n) → IsSome (held_page b n)
 
 -- a draft of pages marks whatever stands for something else, and nothing more
 abbrev pub PagesMark : Type 0

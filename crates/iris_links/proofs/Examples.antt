@@ -1,5 +1,5 @@
 -- Counts of links, by small cases: one that is, and one near by that isn't.
-use Rattle.std.proofs.Common.{◌≡◌, ◌≤◌, ◌^◌, ℕ, [], ◌∷◌, true, false, Some, None, refl, arith, lit<, lit≤}
+use Rattle.std.proofs.Common.{◌≡◌, ◌≤◌, ◌^◌, ℕ, [], ◌∷◌, true, false, Some, None, refl, ap, arith, lit<, lit≤}
 use Rattle.iris_name.specs.declared.name.FileId.{FileId}
 use Rattle.iris_node.specs.declared.node.Link.{Link}
 use Rattle.iris_node.specs.declared.node.Body.TheVariants.{Dir, File}
@@ -8,6 +8,7 @@ use Rattle.iris_node.specs.declared.node.Node.{Node}
 use Rattle.iris_node.specs.declared.node.Node.TheVariants.{Entry, Part}
 use Rattle.iris_links.specs.declared.linked.Holders.TheVariants.{Nobody, One, More}
 use Rattle.iris_links.specs.Links.{LinkIndex, linked_count, linked_sum, AreHolders, IsLinkedFrom, IsSameSum}
+use Rattle.iris_links.specs.Alike.{LeadAlike, target_of}
 use Rattle.iris_links.specs.NodeLinks.{links_to, sum_to}
 
 abbrev id : ℕ → FileId
@@ -15,7 +16,7 @@ id k = record { 0 = k }
 
 -- one link leads to 5, from 7; and two to 6, from 7 and 8
 abbrev some : LinkIndex
-some = record { linked = (id 5, record { count = 1; sum = 7 }) ∷ (id 6, record { count = 2; sum = 15 }) ∷ []; partial = false }
+some = record { linked = (id 5, record { count = 1; sum = 7 }) ∷ (id 6, record { count = 2; sum = 15 }) ∷ []; partial = false; room = 0 }
 
 counted : linked_count some (id 6) ≡ 2
 counted = refl
@@ -86,3 +87,19 @@ no-link = refl
 
 no-link-inside : links_to (id 7) (Entry (record { id = id 7; name = []; left = None; right = None; body = File 0 0 (Fold 0) })) ≡ 0
 no-link-inside = refl
+
+-- the same links lead alike, whatever their hashes and counts of blocks; moved from the left to the right they don't, nor in another entry
+abbrev other-hash : Node
+other-hash = Entry (record { id = id 7; name = []; left = Some (record { id = id 5; hash = record { 0 = 1 ∷ [] }; blocks = 3 }); right = None; body = Dir (Some (link 5)) })
+
+alike : LeadAlike folder other-hash
+alike = (refl, refl, refl, refl)
+
+on-the-right : LeadAlike folder (Entry (record { id = id 7; name = []; left = None; right = Some (link 5); body = Dir (Some (link 5)) })) → ⊥
+on-the-right h = let e = h.1 in absurd (cc)
+
+of-another : LeadAlike folder (Entry (record { id = id 8; name = []; left = Some (link 5); right = None; body = Dir (Some (link 5)) })) → ⊥
+of-another h = let e : 7 ≡ 8 = ap (λ (i : FileId). i.0) h.0 in absurd (omega (arith, e))
+
+targets : (target_of (Some (link 5)) ≡ Some (id 5)) × (target_of None ≡ None)
+targets = (refl, refl)

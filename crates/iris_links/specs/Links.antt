@@ -10,10 +10,16 @@ use Rattle.iris_links.specs.declared.linked.Holders.TheVariants.{Unknown, Nobody
 abbrev pub same_id : FileId → FileId → Bool
 same_id a b = a.0 == b.0
 
--- the entries that links lead to, each once and in an order that is left open; and whether a link may be missing
+-- the entries that links lead to, each once and in an order that is left open; whether a link may be missing; and for how many entries
+-- more there is memory
 pub record LinkIndex : Type 0 where
   pub linked : List (FileId × Linked)
   pub partial : Bool
+  pub room : ℕ
+
+-- two indexes count the same, and are as whole
+abbrev pub CountsAlike : LinkIndex → LinkIndex → Type 0
+CountsAlike l m = (m.linked ≡ l.linked) × (m.partial ≡ l.partial)
 
 -- what is counted for an entry
 abbrev pub linked_at : LinkIndex → FileId → Option Linked

@@ -1,8 +1,8 @@
 //! Links from entries to entries, counted by where they lead.
 
-ghost use Rattle.std.specs.Prelude.{◌≡◌, ◌≢◌, ◌+◌, ◌-◌, ◌%◌, ◌^◌, ◌||◌, not, None, IsSome, true, false, if◌then◌else◌};
+ghost use Rattle.std.specs.Prelude.{◌≡◌, ◌≢◌, ◌≤◌, ◌<◌, ◌+◌, ◌-◌, ◌%◌, ◌^◌, ◌||◌, not, None, IsSome, OnOk, true, false, if◌then◌else◌};
 ghost use Rattle.iris_name.specs.declared.name.FileId.{FileId as SpecId};
-ghost use Rattle.iris_links.specs.Links.{same_id, linked_at, linked_count, linked_sum, AreHolders, IsLinkedFrom};
+ghost use Rattle.iris_links.specs.Links.{same_id, linked_at, linked_count, linked_sum, AreHolders, CountsAlike, IsLinkedFrom};
 
 use crate::linked::{Holders, Linked};
 use indexmap::IndexMap;
@@ -20,10 +20,15 @@ pub struct Links {
 
 impl Model for Links {
     ghost use Rattle.iris_links.specs.Links.{LinkIndex};
+    ghost use Rattle.indexmap.specs.IndexMap.{spare};
 
     ghost Value = { LinkIndex };
 
-    ghost view = { λ a. record { linked = a.linked.entries; partial = a.partial } };
+    ghost view = { λ a. record {
+      linked = a.linked.entries;
+      partial = a.partial;
+      room = spare a.linked;
+    } };
 }
 
 impl Links {
@@ -41,7 +46,9 @@ impl Links {
 
     /// Makes room for links to so many entries more.
     pub fn reserve(&mut self, additional: usize) -> Result<(), NoMemory>
-        ensures { self.new ≡ self.old }
+        ensures same { CountsAlike self.old self.new }
+        ensures room { OnOk result (additional ≤ self.new.room) }
+        ensures kept { self.old.room ≤ self.new.room }
     {
         self.linked.reserve(additional)?;
         Ok(())
@@ -65,6 +72,9 @@ impl Links {
     /// Counts a link to an entry. Without memory for it, the index is partial from then on.
     pub fn add(&mut self, child: FileId, holder: FileId)
         ensures partial { self.new.partial ≡ false → self.old.partial ≡ false }
+        ensures whole { 1 ≤ self.old.room → linked_count self.old child + 1 < 2 ^ 64 →
+            self.old.partial ≡ false → self.new.partial ≡ false }
+        ensures room { self.old.room ≤ self.new.room + 1 }
         ensures counts { self.new.partial ≡ false → (q : SpecId) → linked_count self.new q ≡
             linked_count self.old q + (if same_id child q then 1 else 0) }
         ensures sums { self.new.partial ≡ false → (q : SpecId) → linked_sum self.new q ≡
@@ -113,6 +123,8 @@ impl Links {
     fn put(&mut self, child: FileId, count: u64, sum: u64)
         ensures partial { self.new.partial ≡ false → self.old.partial ≡ false }
         ensures whole { IsSome (linked_at self.old child) → self.new.partial ≡ self.old.partial }
+        ensures roomy { 1 ≤ self.old.room → self.new.partial ≡ self.old.partial }
+        ensures room { self.old.room ≤ self.new.room + 1 }
         ensures counts { self.new.partial ≡ false → (q : SpecId) →
             linked_count self.new q ≡ (if same_id child q then count else linked_count self.old q) }
         ensures sums { self.new.partial ≡ false → (q : SpecId) →

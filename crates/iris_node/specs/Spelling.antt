@@ -1,5 +1,5 @@
 -- The one spelling of each node: format, kind and fields from left to right, numbers big-endian.
-use Rattle.std.specs.Prelude.{ℕ, List, [], ◌∷◌, ◌++◌, length, Option, Some, None}
+use Rattle.std.specs.Prelude.{◌≡◌, ℕ, List, [], ◌∷◌, ◌++◌, length, Option, Some, None}
 use Rattle.std.specs.Int.{w32, w64, to_be_bytes}
 use Rattle.iris_node.specs.declared.node.Side.{Side}
 use Rattle.iris_node.specs.declared.node.Side.TheVariants.{Fold, Below}
@@ -8,7 +8,9 @@ use Rattle.iris_node.specs.declared.node.Body.{Body}
 use Rattle.iris_node.specs.declared.node.Body.TheVariants.{Dir, File}
 use Rattle.iris_node.specs.declared.node.Node.{Node}
 use Rattle.iris_node.specs.declared.node.Node.TheVariants.{Entry, Part}
+use Rattle.iris_name.specs.declared.name.Name.{Name}
 use Rattle.iris_node.specs.Fields.{EntryFields, PartFields}
+use Rattle.iris_node.specs.Nodes.{IsNode, name_of}
 
 -- a link: a byte 0 where it is absent, else a byte 1, the id, the hash and the count of blocks
 abbrev pub link : Option Link → List ℕ
@@ -54,3 +56,10 @@ part p = to_be_bytes w64 p.file.0 ++ (p.level ∷ (to_be_bytes w32 p.index ++ (s
 unfoldable pub spelling : Node → List ℕ
 spelling (Entry e) = entry_format e ∷ kind_byte e.body ∷ spelled_entry e
 spelling (Part p) = part_format p ∷ 3 ∷ part p
+
+-- Bytes spell a node of this name.
+pub record SpellsNode (n : Name) (bytes : List ℕ) : Type 0 where
+  pub node : Node
+  pub is : IsNode node
+  pub named : name_of node ≡ n
+  pub bytes_ : bytes ≡ spelling node

@@ -54,11 +54,14 @@ module _ (key : List ℕ) (met : List (List ℕ) → Seen) (d : Drafted) (c : Re
   met_so ThroughFile sight first = refl
 
   module _ (names : List (List ℕ)) (r : Found) (follows : (more : List (List ℕ)) (found : Found) → Resolves new key (names ++ more) found → Onward new key r more found) where
-    -- resolving a path comes to what following all its names comes to
+    -- resolving a path comes to what following all its names comes to, and to nothing else
+    pub comes_once : (other : Found) → Resolves new key names other → other ≡ r
+    comes_once other l = arrive new key r other (follows [] other (subst (λ l. Resolves new key l other) (sym (append-nil names)) l))
+
     pub comes : Resolves new key names r × (met names ≡ met_by new r)
     comes =
         let f = pic.meets names in
-        let e = arrive new key r f.0 (follows [] f.0 (subst (λ l. Resolves new key l f.0) (sym (append-nil names)) f.1)) in
+        let e = comes_once f.0 f.1 in
         (subst (λ g. Resolves new key names g) e f.1, f.2 ∙ ap (met_by new) e)
 
     pub come_low : Low new r

@@ -9,5 +9,5 @@ pub mod resolving;
 
 pub use making::plan_make;
 pub use moving::plan_rename;
-pub use reading::{plan_list, plan_stat};
+pub use reading::{look, plan_list, plan_stat};
 pub use resolving::{Found, resolve};

@@ -8,7 +8,9 @@ ghost use Rattle.iris_plain.specs.Checks.{unresolved, is_directory_seen, size_of
 ghost use Rattle.iris_plain.specs.Steps.{Judged};
 ghost use Rattle.iris_cache.specs.Drafted.{seen};
 ghost use Rattle.iris_paths.specs.Pictured.{Pictured, AreInSight, IsOnTrail, IsPathLack, IsPathShort, every};
-ghost use Rattle.iris_paths.specs.Following.{Follows, standing_node, standing_seen};
+ghost use Rattle.iris_paths.specs.Following.{standing_node, standing_seen, met_seen};
+ghost use Rattle.iris_paths.specs.declared.resolving.Found.{Found as Come};
+ghost use Rattle.iris_paths.specs.Resolving.{Resolves};
 ghost use Rattle.iris_paths.specs.Entering.{no_directory};
 ghost use Rattle.iris_paths.specs.Listing.{IsListing, IsListed};
 
@@ -46,19 +48,37 @@ fn standing(draft: &Draft, cache: &Cache, id: FileId) -> Seen
     }
 }
 
-// What resolving meets.
-fn meet(draft: &Draft, cache: &Cache, names: &[Text]) -> Result<Seen, Short>
-    ensures met { IfOk result (λ s.
-        (key : List ℕ) (met : List (List ℕ) → MetSeen) (old new : Shown) →
-        Pictured key met draft.now cache.now old new → met names.now ≡ s) }
-    ensures short { IfErr result (λ e. (key : List ℕ) →
-        IsPathLack key every (IsOnTrail key names.now) draft.now cache.now e) }
+// What is seen where resolving came to its end.
+fn seen_at(draft: &Draft, cache: &Cache, found: Found) -> Seen
+    ensures { result ≡ met_seen draft.now cache.now found }
 {
-    match follow(draft, cache, names)? {
-        Found::At { id, .. } => Ok(standing(draft, cache, id)),
-        Found::Missing => Ok(Seen::Nothing),
-        Found::ThroughFile => Ok(Seen::AFileBefore),
+    match found {
+        Found::At { id, .. } => standing(draft, cache, id),
+        Found::Missing => Seen::Nothing,
+        Found::ThroughFile => Seen::AFileBefore,
     }
+}
+
+/// What resolving a path comes to, and what stands there.
+pub fn look(draft: &Draft, cache: &Cache, path: &Path) -> Result<(Found, Seen), Short>
+    ensures found { IfOk result (λ r.
+        (key : List ℕ) (met : List (List ℕ) → MetSeen) (old new : Shown) →
+        Pictured key met draft.now cache.now old new → Resolves new key path.now r.0) }
+    ensures one { IfOk result (λ r.
+        (key : List ℕ) (met : List (List ℕ) → MetSeen) (old new : Shown) →
+        Pictured key met draft.now cache.now old new → (other : Come) →
+        Resolves new key path.now other → other ≡ r.0) }
+    ensures met { IfOk result (λ r.
+        (key : List ℕ) (met : List (List ℕ) → MetSeen) (old new : Shown) →
+        Pictured key met draft.now cache.now old new → met path.now ≡ r.1) }
+    ensures there { IfOk result (λ r. AreInSight draft.now cache.now r.0) }
+    ensures seen { IfOk result (λ r. r.1 ≡ met_seen draft.now cache.now r.0) }
+    ensures short { IfErr result (λ e. (key : List ℕ) →
+        IsPathLack key every (IsOnTrail key path.now) draft.now cache.now e) }
+{
+    let found = follow(draft, cache, path.names())?;
+    let here = seen_at(draft, cache, found);
+    Ok((found, here))
 }
 
 /// Whether a directory stands at a path, and the length of a file there.
@@ -70,7 +90,7 @@ pub fn plan_stat(draft: &Draft, cache: &Cache, path: &Path) -> Result<Reply, Sho
     ensures short { IfErr result (λ e. (key : List ℕ) →
         IsPathLack key every (IsOnTrail key path.now) draft.now cache.now e) }
 {
-    let here = meet(draft, cache, path.names())?;
+    let (_, here) = look(draft, cache, path)?;
     match stat_checks(here) {
         Some(error) => Ok(Reply::Plain(error)),
         None => Ok(Reply::Stat {

@@ -39,7 +39,7 @@ writes_go_through order t path offset bytes i f d c e b a some says =
     (files_refiled order t (file_written offset bytes) a.names i f a.inside s v a.leads))
 
 -- a file at its length and its counter with other versions is one with other versions alone
-same_length : (new made : Shown) (i : ℕ) (f : File) (w : ℕ → ℕ) (is : IsTree new) (made_is : IsTree made) (has : HasFile new (id_of i) f) → Refiles new made (id_of i) f.size f.counter w → Reversions new made (id_of i) w
+pub same_length : (new made : Shown) (i : ℕ) (f : File) (w : ℕ → ℕ) (is : IsTree new) (made_is : IsTree made) (has : HasFile new (id_of i) f) → Refiles new made (id_of i) f.size f.counter w → Reversions new made (id_of i) w
 same_length new made i f w is made_is has re = record {
   versions = re.versions;
   others = λ p other. sym (unsized p (made p) refl) ∙ (between_reversions new made (id_of i) f.size f.counter f.size f.counter f.version w is made_is has.versions has.entry re).others p other;

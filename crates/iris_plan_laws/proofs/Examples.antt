@@ -1,5 +1,5 @@
 -- What the definitions hold of, and what near by they don't.
-use Rattle.std.proofs.Common.{◌≡◌, ◌≢◌, inr, ℕ, ◌+◌, ◌<◌, ◌≤◌, List, [], ◌∷◌, Bool, true, false, ◌||◌, ◌&&◌, cond, Option, Some, None, refl, ◌∙◌, ap, arith, sym, subst}
+use Rattle.std.proofs.Common.{◌≡◌, ◌≢◌, inr, ℕ, ◌+◌, ◌<◌, ◌≤◌, List, [], ◌∷◌, Bool, true, false, ◌||◌, ◌&&◌, cond, Option, Some, None, refl, ◌∙◌, ap, arith, sym, subst, IsSome}
 use Rattle.std.specs.Prelude.{◌==◌, codes, nat_lt, not, IsSomeAnd}
 use Rattle.std.specs.List.{IsDistinct}
 use Rattle.std.proofs.lemmas.Bool.{eqb-true}
@@ -9,6 +9,7 @@ use Rattle.iris_name.specs.declared.name.Hash32.{Hash32}
 use Rattle.iris_name.specs.declared.name.Name.{Name}
 use Rattle.iris_name.specs.declared.name.Name.TheVariants.{Entry, Part, Block}
 use Rattle.iris_name.specs.declared.request.Request.TheVariants.{Mkdir, Create, Write, Rename}
+use Rattle.iris_name.specs.Names.{same_name}
 use Rattle.iris_name.specs.Paths.{names_of}
 use Rattle.sha2.specs.Sha256.{sha256}
 use Rattle.iris_node.specs.declared.node.Body.TheVariants.{Dir}
@@ -26,10 +27,11 @@ use Rattle.iris_shape.specs.FoldLaws.{with_range_set}
 use Rattle.iris_forest.proofs.Ids.{taken_eq}
 use Rattle.iris_blocks.specs.declared.draft.PageChange.{PageChange}
 use Rattle.iris_blocks.specs.Changes.{PageDrafted, from_to}
-use Rattle.iris_blocks.specs.Paged.{Paged, ArePagesSound, Shows}
+use Rattle.iris_blocks.specs.Laws.{ChangesEach}
+use Rattle.iris_blocks.specs.Paged.{Paged, ArePagesSound, Shows, held_page}
 use Rattle.iris_plain.specs.Checks.{blocks_of}
 use Rattle.iris_files.specs.Cuts.{page_cut}
-use Rattle.iris_files.specs.Pages.{is_block_in, page_written, place_of}
+use Rattle.iris_files.specs.Pages.{AreOldsResident, is_block_in, page_written, place_of}
 use Rattle.iris_files.specs.Refiles.{Filed}
 use Rattle.iris_cache.specs.Resident.{Resident}
 use Rattle.iris_cache.specs.declared.held.Held.{Held}
@@ -48,6 +50,7 @@ use Rattle.iris_plan_laws.specs.Takes.{TakesOut, PutsIn}
 use Rattle.iris_plan_laws.proofs.AcceptedRequests.{IsMove, accepted_move, moved_step}
 use Rattle.iris_plan_laws.proofs.BlocksOfRows.{rows_keep_blocks}
 use Rattle.iris_plan_laws.proofs.MovedRow.{HalvesOfMove, halves_of_move}
+use Rattle.iris_plan_laws.proofs.ChangedPages.{pages_change_each}
 use Rattle.iris_plan_laws.proofs.PagesOfSteps.{rows_keep_pages}
 
 -- ---- new content
@@ -279,6 +282,24 @@ page_of_nothing order h =
     let a = h.changes.changed (Block (id_of 2) 0) (from_to None (Some (1, zeros))) refl in
     let b = rows_keep_blocks order empty_table (Mkdir (codes "/a")) sound_empty tt (id_of 2) 0 in
     let e : None ≡ Some (Stored 1 zeros) = sym b ∙ a in absurd (cc)
+
+-- nor is an entry a block
+page_of_an_entry : (order : List ℕ) → PagesGoThrough order empty_table (Mkdir (codes "/a")) (record { changes = (Entry (id_of 2), from_to None None) ∷ [] }) no_blocks → ⊥
+page_of_an_entry order h = h.blocks (Entry (id_of 2)) (from_to None None) refl
+
+-- a hole needs no resident block, and an old page does
+olds_of_holes : AreOldsResident one_page no_blocks
+olds_of_holes q change c old = by (same_name q (Block (id_of 2) 0)) c where
+  by : (a : Bool) → cond a (Some (from_to None (Some (1, zeros)))) None ≡ Some change → IsSome (held_page no_blocks q)
+  by true e = absurd (let k : from_to None (Some (1, zeros)) ≡ change = cc in let o : IsSome (from_to None (Some (1, zeros))).old = subst (λ (y : PageChange). IsSome y.old) (sym k) old in cc)
+  by false e = absurd (cc)
+
+old_absent : AreOldsResident (record { changes = (Block (id_of 2) 0, from_to (Some zeros) None) ∷ [] }) no_blocks → ⊥
+old_absent h = let e = h (Block (id_of 2) 0) (from_to (Some zeros) None) refl refl in absurd (cc)
+
+-- so a new directory changes each of no blocks
+each_of_none : (order : List ℕ) → ChangesEach (shown order empty_table) (shown order (stepped empty_table (Mkdir (codes "/a")))) no_pages no_blocks
+each_of_none order = pages_change_each order empty_table (Mkdir (codes "/a")) no_pages no_blocks sound_empty (pages_through order) (λ q change c. absurd (cc))
 
 -- what is no block has no page, nor has a hole
 pages_shown : (page_shown (Some (Stored 1 zeros)) ≡ Some zeros) × (page_shown (Some (Even 1)) ≡ None) × (page_shown None ≡ None)

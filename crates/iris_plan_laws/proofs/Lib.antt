@@ -3,6 +3,7 @@
 -- rows_are_left: RowsLeft, MovedRow
 -- blocks_change: BlocksOfRows, BlocksOfSteps
 -- writes_change_pages, resizes_change_pages, rows_keep_pages: PagesOfSteps, over BlocksOfSteps, BlocksOfRows and Pictured
+-- pages_change_each: ChangedPages
 -- between_is_sound: CutBetween
 -- makes_go_through: MadeRow; moves_go_through: MovedRow; writes_go_through, resizes_go_through: ChangedFile; all over AcceptedRequests and Pictured
 -- reads_are_replies: RepliesOfPlans
@@ -23,6 +24,7 @@ pub mod ChangedFile
 pub mod BlocksOfRows
 pub mod BlocksOfSteps
 pub mod PagesOfSteps
+pub mod ChangedPages
 pub mod RepliesOfPlans
 pub mod FetchedNodes
 pub mod Examples

@@ -69,6 +69,7 @@ module _ (i : ℕ) (after : ℕ → Option PageChange) (q : PageDrafted) (is : (
       let changes : ChangesTo (shown order t) u q = record { changed = at_names (λ n x. u n ≡ stored_block x.new) says; others = at_others (shown order t) u picks c rest } in
       record {
         changes = changes;
+        blocks = at_names (λ n x. IsBlock n) (λ k x h. tt);
         differs = at_names (λ n x. u n ≢ shown order t n) (λ k x h. c.changed k (picked k x h));
         was = at_names (λ n x. x.old ≡ page_shown (shown order t n)) (λ k x h. old k x h ∙ page_same (f.version k == 0) (f.version k) (f.block k) ∙ ap page_shown (sym (stands k)));
         shows = λ e l. apply_shows (shown order t) u q b e begin.shows begin.kept changes l;
@@ -280,7 +281,7 @@ rows_keep_pages order t request p b s o begin =
     let none : (n : Name) (x : PageChange) → change_of p n ≡ Some x → ⊥ = λ n x h. absurd (let e = begin.empty n in cc) in
     let changes : ChangesTo (shown order t) u p = record { changed = λ n x h. absurd (none n x h); others = λ n k h. kept same n k } in
     let shows : (e : Paged) → IsLanded p b e → Shows u e = λ e l. apply_shows (shown order t) u p b e begin.shows begin.kept changes l in
-    (record { changes = changes; differs = λ n x h. absurd (none n x h); was = λ n x h. absurd (none n x h); shows = shows }, shows b (λ n. sym (ap (λ x. landed_page x (held_page b n)) (begin.empty n)))) where
+    (record { changes = changes; blocks = λ n x h. absurd (none n x h); differs = λ n x h. absurd (none n x h); was = λ n x h. absurd (none n x h); shows = shows }, shows b (λ n. sym (ap (λ x. landed_page x (held_page b n)) (begin.empty n)))) where
       kept : SameBlocks (shown order t) (shown order (stepped t request)) → (n : Name) → IsBlock n → shown order (stepped t request) n ≡ shown order t n
       kept same (Entry id) k = absurd k
       kept same (Part g l j) k = absurd k

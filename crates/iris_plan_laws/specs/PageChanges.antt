@@ -10,15 +10,15 @@ use Rattle.iris_cache.specs.Drafted.{Drafted}
 use Rattle.iris_cache.specs.Resident.{Resident}
 use Rattle.iris_blocks.specs.declared.draft.PageChange.{PageChange}
 use Rattle.iris_blocks.specs.Changes.{PageDrafted, change_of, landed_page}
-use Rattle.iris_blocks.specs.Laws.{ChangesTo}
-use Rattle.iris_blocks.specs.Paged.{Paged, ArePagesSound, Shows, held_page}
+use Rattle.iris_blocks.specs.Laws.{ChangesEach, ChangesTo}
+use Rattle.iris_blocks.specs.Paged.{Paged, ArePagesSound, IsBlock, Shows, held_page}
 use Rattle.iris_plain.specs.Checks.{blocks_of}
 use Rattle.iris_rows.specs.Changes.{stepped}
 use Rattle.iris_rows.specs.Rows.{File, Table}
 use Rattle.iris_rows.specs.Sound.{IsSound}
 use Rattle.iris_records.specs.Shown.{shown}
 use Rattle.iris_files.specs.Cuts.{page_cut}
-use Rattle.iris_files.specs.Pages.{is_block_in, page_written, place_of}
+use Rattle.iris_files.specs.Pages.{AreOldsResident, is_block_in, page_written, place_of}
 use Rattle.iris_files.specs.Refiles.{Filed}
 use Rattle.iris_plan_laws.specs.Begun.{PlanBegins, IsAtFile}
 use Rattle.iris_plan_laws.specs.Blocks.{IsOfRows}
@@ -41,6 +41,7 @@ page_shown _ = None
 -- The draft of pages changes the blocks that the request changes, and none besides, and tells the page that each was. Once it is made, the resident blocks show the table after the request.
 pub record PagesGoThrough (order : List ℕ) (t : Table) (request : Request) (p : PageDrafted) (b : Paged) : Type 0 where
   pub changes : ChangesTo (shown order t) (shown order (stepped t request)) p
+  pub blocks : (n : Name) (change : PageChange) → change_of p n ≡ Some change → IsBlock n
   pub differs : (n : Name) (change : PageChange) → change_of p n ≡ Some change → shown order (stepped t request) n ≢ shown order t n
   pub was : (n : Name) (change : PageChange) → change_of p n ≡ Some change → change.old ≡ page_shown (shown order t n)
   pub shows : (e : Paged) → IsLanded p b e → Shows (shown order (stepped t request)) e
@@ -71,3 +72,8 @@ ResizesChangePages = (order : List ℕ) (t : Table) (path : List ℕ) (size i : 
 abbrev pub RowsKeepPages : Type 0
 RowsKeepPages = (order : List ℕ) (t : Table) (request : Request) (p : PageDrafted) (b : Paged) → IsSound t → IsOfRows request → PagesBegin order t p b
     → PagesGoThrough order t request p b × Shows (shown order (stepped t request)) b
+
+-- what goes through changes each block that it drafts, which was resident or a hole, where each is resident of which it has an old page
+abbrev pub PagesChangeEach : Type 0
+PagesChangeEach = (order : List ℕ) (t : Table) (request : Request) (p : PageDrafted) (b : Paged) → IsSound t → PagesGoThrough order t request p b → AreOldsResident p b
+    → ChangesEach (shown order t) (shown order (stepped t request)) p b

@@ -5,7 +5,7 @@ ghost use Rattle.iris_plan_laws.specs.Fetches.{RecordsFit, FetchesFit, FetchesKe
 ghost use Rattle.iris_plan_laws.specs.FileChanges.{BetweenIsSound, WritesGoThrough, ResizesGoThrough};
 ghost use Rattle.iris_plan_laws.specs.Makes.{MakesGoThrough};
 ghost use Rattle.iris_plan_laws.specs.Moves.{HandsAreHeld, NamesLeadOn, NoNameComes, MovesGoThrough};
-ghost use Rattle.iris_plan_laws.specs.PageChanges.{WritesChangePages, ResizesChangePages, RowsKeepPages};
+ghost use Rattle.iris_plan_laws.specs.PageChanges.{PagesChangeEach, WritesChangePages, ResizesChangePages, RowsKeepPages};
 ghost use Rattle.iris_plan_laws.specs.Replies.{ListsAreReplies, StatsAreReplies};
 ghost use Rattle.iris_plan_laws.specs.Steps.{FilesAreRefiled, MakesAreRows};
 ghost use Rattle.iris_plan_laws.specs.Takes.{TakesAreRows, PutsAreRows};
@@ -78,6 +78,11 @@ pub fn resizes_change_pages()
 /// So does what makes or moves rows, with no page drafted.
 pub fn rows_keep_pages()
     ensures { RowsKeepPages }
+{}
+
+/// What goes through the blocks changes each that it drafts, and each of these was resident, or a hole.
+pub fn pages_change_each()
+    ensures { PagesChangeEach }
 {}
 
 /// What the plans that read paths answer is the table's reply.

@@ -2,21 +2,47 @@
 
 ghost use Rattle.std.specs.Prelude.{◌≤◌, ◌<◌};
 
-use crate::dice::Dice;
-use crate::fetching::record_of;
 use crate::filling::{ENTRY, cache_of, file_in, set, side_in};
-use crate::keeping::{are_recorded, let_some_go, settle_all};
-use crate::planning::text;
 use iris_cache::Cache;
 use iris_mac::Keys;
 use iris_name::{Bytes, Name, Reply, Request};
 use iris_node::{Side, decode};
 use iris_table::Table;
+use iris_testing::dice::Dice;
+use iris_testing::fetching::record_of;
+use iris_testing::keeping::{are_recorded, let_some_go, settle_and_clean};
+use iris_testing::planning::text;
 use std::alloc::Global;
 use std::test::Fail;
 
 // How many places the file has.
 const LENGTH: u32 = 6000;
+
+// A table, its records, and a cache in which the same is planned; and how many parts were let go.
+#[derive(Drop)]
+struct Beside {
+    keys: Keys,
+    table: Table,
+    records: Vec<(Name, Bytes)>,
+    cache: Cache,
+    gone: u32,
+}
+
+// A range of places that is written, or that becomes a hole: it is cut off, and the file then as long as before.
+#[derive(Clone, Copy)]
+struct Change {
+    low: u32,
+    high: u32,
+    cuts: bool,
+}
+
+// Asks a table for something that it does.
+fn step(alloc: Global, table: &mut Table, request: &Request) -> Result<(), Fail> {
+    match table.step(alloc, request)? {
+        Reply::Done => Ok(()),
+        _ => Err("a request is refused".into()),
+    }
+}
 
 // Writes so many places from one on.
 fn write(alloc: Global, table: &mut Table, place: u32, count: u32) -> Result<(), Fail> {
@@ -27,10 +53,7 @@ fn write(alloc: Global, table: &mut Table, place: u32, count: u32) -> Result<(),
         offset: place as u64 * 4096,
         bytes: Bytes::of(bytes),
     };
-    match table.step(alloc, &request)? {
-        Reply::Done => Ok(()),
-        _ => Err("a write is refused".into()),
-    }
+    step(alloc, table, &request)
 }
 
 fn resize(alloc: Global, table: &mut Table, places: u32) -> Result<(), Fail> {
@@ -38,10 +61,36 @@ fn resize(alloc: Global, table: &mut Table, places: u32) -> Result<(), Fail> {
         path: text(alloc, "/a")?,
         length: places as u64 * 4096,
     };
-    match table.step(alloc, &request)? {
-        Reply::Done => Ok(()),
-        _ => Err("a resize is refused".into()),
-    }
+    step(alloc, table, &request)
+}
+
+fn create(alloc: Global, table: &mut Table) -> Result<(), Fail> {
+    let request = Request::Create {
+        path: text(alloc, "/a")?,
+    };
+    step(alloc, table, &request)
+}
+
+// A table that has one file, which is a hole.
+fn table_of_a_file(alloc: Global, keys: &Keys) -> Result<Table, Fail> {
+    let mut table = Table::new(alloc, keys)?;
+    create(alloc, &mut table)?;
+    resize(alloc, &mut table, LENGTH)?;
+    Ok(table)
+}
+
+fn set_up(alloc: Global) -> Result<Beside, Fail> {
+    let keys = Keys::of(&[0; 32]);
+    let table = table_of_a_file(alloc, &keys)?;
+    let records = table.records_of(alloc, &keys)?;
+    let cache = cache_of(alloc, records.as_slice())?;
+    Ok(Beside {
+        keys,
+        table,
+        records,
+        cache,
+        gone: 0,
+    })
 }
 
 // The counter of writes, and the side of all versions, in the file's record.
@@ -57,71 +106,94 @@ fn agrees(alloc: Global, cache: &Cache, records: &[(Name, Bytes)]) -> Result<boo
     Ok(side_in(cache) == Some(side) && are_recorded(alloc, cache, records, Some(ENTRY))?)
 }
 
-// Lets parts go, and some of those above them. Tells how many went.
-fn forget(alloc: Global, cache: &mut Cache, dice: &mut Dice) -> Result<u32, Fail> {
-    let mut gone = 0u32;
+// Lets parts go, and some of those above them.
+fn forget(alloc: Global, beside: &mut Beside, dice: &mut Dice) -> Result<(), Fail> {
     for _ in 0..3 {
-        gone = gone.saturating_add(let_some_go(alloc, cache, dice)?);
+        let gone = let_some_go(alloc, &mut beside.cache, dice)?;
+        beside.gone = beside.gone.saturating_add(gone);
     }
-    Ok(gone)
+    Ok(())
 }
 
-// A range of places near one of a few.
-fn range(dice: &mut Dice) -> (u32, u32)
-    ensures some { result.0 < result.1 }
-    ensures within { result.1 ≤ 6000 }
+// A range near one of a few places, or, one time in eight, one near the end that is cut off.
+fn some_change(dice: &mut Dice) -> Change
+    ensures some { result.low < result.high }
+    ensures within { result.high ≤ 6000 }
 {
     let low = dice.roll(3) * 2950 + dice.roll(50);
-    (low, low + 1 + dice.roll(12))
+    let high = low + 1 + dice.roll(12);
+    if dice.roll(8) == 0 {
+        return Change {
+            low: LENGTH - 1 - dice.roll(64),
+            high: LENGTH,
+            cuts: true,
+        };
+    }
+    Change {
+        low,
+        high,
+        cuts: false,
+    }
 }
 
-// One change of the table, and the plan of the same over the cache.
-fn change(
-    alloc: Global,
-    table: &mut Table,
-    cache: &mut Cache,
-    dice: &mut Dice,
-    before: &[(Name, Bytes)],
-) -> Result<Vec<(Name, Bytes)>, Fail> {
-    let keys = Keys::of(&[0; 32]);
-    let (low, high) = range(dice);
-    if dice.roll(8) == 0 {
-        let end = LENGTH - 1 - dice.roll(64);
-        resize(alloc, table, end)?;
-        resize(alloc, table, LENGTH)?;
-        set(alloc, cache, before, end, LENGTH, 0)?;
-        return Ok(table.records_of(alloc, &keys)?);
+fn change_table(alloc: Global, table: &mut Table, change: Change) -> Result<(), Fail>
+    requires { change.low < change.high }
+{
+    if !change.cuts {
+        return write(alloc, table, change.low, change.high - change.low);
     }
-    write(alloc, table, low, high - low)?;
-    let records = table.records_of(alloc, &keys)?;
-    let (version, _) = recorded_file(alloc, records.as_slice())?;
-    set(alloc, cache, before, low, high, version)?;
-    Ok(records)
+    resize(alloc, table, change.low)?;
+    resize(alloc, table, LENGTH)
+}
+
+// Plans the same over the cache: the written places have the counter of the file's record afterwards.
+fn change_cache(
+    alloc: Global,
+    cache: &mut Cache,
+    change: Change,
+    before: &[(Name, Bytes)],
+    after: &[(Name, Bytes)],
+) -> Result<(), Fail>
+    requires some { change.low < change.high }
+    requires within { change.high ≤ 6000 }
+{
+    let (counter, _) = recorded_file(alloc, after)?;
+    let version = if change.cuts { 0 } else { counter };
+    set(alloc, cache, before, change.low, change.high, version)
+}
+
+fn change_both(alloc: Global, beside: &mut Beside, change: Change) -> Result<(), Fail>
+    requires some { change.low < change.high }
+    requires within { change.high ≤ 6000 }
+{
+    change_table(alloc, &mut beside.table, change)?;
+    let records = beside.table.records_of(alloc, &beside.keys)?;
+    let before = beside.records.as_slice();
+    change_cache(alloc, &mut beside.cache, change, before, records.as_slice())?;
+    beside.records = records;
+    Ok(())
+}
+
+// One change of both, settled and cleaned. Tells whether they agree.
+fn round(alloc: Global, beside: &mut Beside, dice: &mut Dice) -> Result<bool, Fail> {
+    let change = some_change(dice);
+    change_both(alloc, beside, change)?;
+    settle_and_clean(&mut beside.cache, &ENTRY)?;
+    agrees(alloc, &beside.cache, beside.records.as_slice())
 }
 
 // Plans that lack parts, with the hashes that they expect; what they make, settled, is the table's.
 #[test]
 fn plans_as_the_table_writes(rt: HostRuntime) -> Result<(), Fail> {
-    let alloc = rt.alloc();
-    let keys = Keys::of(&[0; 32]);
-    let mut table = Table::new(alloc, &keys)?;
-    table.step(
-        alloc,
-        &Request::Create {
-            path: text(alloc, "/a")?,
-        },
-    )?;
-    resize(alloc, &mut table, LENGTH)?;
-    let mut records = table.records_of(alloc, &keys)?;
-    let mut cache = cache_of(alloc, records.as_slice())?;
+    let mut beside = set_up(rt.alloc())?;
     let mut dice = Dice::of(1);
-    let mut gone = 0u32;
-    for round in 0..60u32 {
-        records = change(alloc, &mut table, &mut cache, &mut dice, records.as_slice())?;
-        settle_all(alloc, &mut cache)?;
-        assert!(rt; agrees(alloc, &cache, records.as_slice())?, "round {round}");
-        gone = gone.saturating_add(forget(alloc, &mut cache, &mut dice)?);
+    for number in 0..60u32 {
+        assert!(rt;
+            round(rt.alloc(), &mut beside, &mut dice)?,
+            "round {number}"
+        );
+        forget(rt.alloc(), &mut beside, &mut dice)?;
     }
-    assert!(rt; gone > 300, "{gone} went");
+    assert!(rt; beside.gone > 300, "{} went", beside.gone);
     Ok(())
 }

@@ -1,15 +1,22 @@
 //! Directories of many entries, of many that aren't made yet, and of long names.
 
-use crate::planning::{draw, fresh, land, listed, make, make_under, some_keys};
+ghost use Rattle.std.specs.Prelude.{◌≤◌};
+
 use iris_cache::{Cache, Draft};
 use iris_mac::Keys;
-use iris_name::{Reply, Text, Texts};
+use iris_name::{PlainError, Reply, Text, Texts};
+use iris_testing::planning::{draw, fresh, land, listed, make, make_under, some_keys};
 use std::alloc::Global;
 use std::test::Fail;
 
 // The name of a file, from f00 to f99.
 fn numbered(alloc: Global, i: u64) -> Result<String, Fail> {
     Ok(format!(in alloc; "f{}{}", i / 10 % 10, i % 10)?)
+}
+
+// The path of that file in the root.
+fn numbered_path(alloc: Global, i: u64) -> Result<String, Fail> {
+    Ok(format!(in alloc; "/f{}{}", i / 10 % 10, i % 10)?)
 }
 
 // The reply that lists some of these.
@@ -21,13 +28,18 @@ fn names_of(alloc: Global, low: u64, high: u64) -> Result<Reply, Fail> {
     Ok(Reply::Names(names))
 }
 
-// Makes the files f00 to f64, the last first.
-fn many(alloc: Global, cache: &mut Cache) -> Result<(), Fail> {
+fn make_numbered(alloc: Global, cache: &mut Cache, i: u64) -> Result<Option<PlainError>, Fail> {
+    let path = numbered_path(alloc, i)?;
+    make(alloc, cache, path.as_str(), i.saturating_add(2), false)
+}
+
+// A root with the files f00 to f64, the last made first.
+fn many(alloc: Global) -> Result<Cache, Fail> {
+    let mut cache = fresh(alloc)?;
     for i in 0..65u64 {
-        let name = format!(in alloc; "/{}", numbered(alloc, 64 - i)?)?;
-        make(alloc, cache, name.as_str(), i + 2, false)?;
+        make_numbered(alloc, &mut cache, 64 - i)?;
     }
-    Ok(())
+    Ok(cache)
 }
 
 // Whether the page of the root after a name has these.
@@ -37,8 +49,7 @@ fn has_page(alloc: Global, cache: &Cache, after: &str, low: u64, high: u64) -> R
 
 // Whether the first page has 64 of these, and the one behind f63 the last.
 fn has_pages(alloc: Global) -> Result<bool, Fail> {
-    let mut cache = fresh(alloc)?;
-    many(alloc, &mut cache)?;
+    let cache = many(alloc)?;
     Ok(has_page(alloc, &cache, "", 0, 64)? && has_page(alloc, &cache, "f63", 64, 65)?)
 }
 
@@ -59,8 +70,8 @@ fn crowd(
 ) -> Result<(), Fail> {
     for i in 0..count {
         let id = first.saturating_add(i);
-        let name = format!(in alloc; "/f{id}")?;
-        make_under(alloc, cache, keys, name.as_str(), id, false)?;
+        let path = format!(in alloc; "/f{id}")?;
+        make_under(alloc, cache, keys, path.as_str(), id, false)?;
     }
     Ok(())
 }
@@ -77,12 +88,18 @@ fn insert_into_ten_thousand(alloc: Global, cache: &mut Cache, keys: &Keys) -> Re
     crowd(alloc, cache, keys, 9_992, 20)
 }
 
+// A root of 110 files.
+fn hundred(alloc: Global, keys: &Keys) -> Result<Cache, Fail> {
+    let mut cache = fresh(alloc)?;
+    crowd(alloc, &mut cache, keys, 2, 90)?;
+    insert_into_hundred(alloc, &mut cache, keys)?;
+    Ok(cache)
+}
+
 // How many are resident once a root has 10,010 files.
 fn crowded(alloc: Global) -> Result<u32, Fail> {
     let keys = some_keys();
-    let mut cache = fresh(alloc)?;
-    crowd(alloc, &mut cache, &keys, 2, 90)?;
-    insert_into_hundred(alloc, &mut cache, &keys)?;
+    let mut cache = hundred(alloc, &keys)?;
     crowd(alloc, &mut cache, &keys, 112, 9_880)?;
     insert_into_ten_thousand(alloc, &mut cache, &keys)?;
     Ok(cache.count())
@@ -99,8 +116,8 @@ fn holds_a_crowd(rt: HostRuntime) -> Result<(), Fail> {
 fn draw_twenty(alloc: Global, draft: &mut Draft, cache: &Cache) -> Result<(), Fail> {
     let keys = some_keys();
     for i in 0..20u64 {
-        let name = format!(in alloc; "/{}", numbered(alloc, i)?)?;
-        draw(alloc, draft, cache, &keys, name.as_str(), i + 2, false)?;
+        let path = numbered_path(alloc, i)?;
+        draw(alloc, draft, cache, &keys, path.as_str(), i + 2, false)?;
     }
     Ok(())
 }
@@ -120,42 +137,63 @@ fn plans_more_than_is_resident(rt: HostRuntime) -> Result<(), Fail> {
     Ok(())
 }
 
-// So many letters after a front.
-fn long(alloc: Global, front: &str, letters: u32) -> Result<String, Fail> {
-    let mut words = front.to_string(alloc)?;
-    for _ in 0..letters {
+// How many bytes a name has at most.
+const MOST: u64 = 255;
+
+// A name of the greatest length.
+fn longest(alloc: Global) -> Result<String, Fail> {
+    let mut words = String::new(alloc);
+    for _ in 0..MOST {
         words.push('n')?;
     }
     Ok(words)
 }
 
-// The reply that lists one name of so many letters.
-fn one_name(alloc: Global, letters: u32) -> Result<Reply, Fail> {
-    let mut names = Texts::new(alloc);
-    names.push(Text::of(long(alloc, "", letters)?))?;
-    Ok(Reply::Names(names))
+// The path of so many such names.
+fn nested(alloc: Global, depth: u64) -> Result<String, Fail>
+    requires { depth ≤ 2 }
+{
+    let mut words = String::new(alloc);
+    for i in 0..depth * (MOST + 1) {
+        let letter = if i % (MOST + 1) == 0 { '/' } else { 'n' };
+        words.push(letter)?;
+    }
+    Ok(words)
+}
+
+fn make_nested(alloc: Global, cache: &mut Cache, depth: u64) -> Result<(), Fail>
+    requires { depth ≤ 2 }
+{
+    let path = nested(alloc, depth)?;
+    match make(alloc, cache, path.as_str(), depth + 1, true)? {
+        None => Ok(()),
+        Some(_) => Err("it isn't made".into()),
+    }
 }
 
 // A directory whose name has 255 bytes, and in it one of the same name.
 fn two_deep(alloc: Global) -> Result<Cache, Fail> {
     let mut cache = fresh(alloc)?;
-    let mut words = long(alloc, "/", 255)?;
-    let first = make(alloc, &mut cache, words.as_str(), 2, true)?;
-    words.push('/')?;
-    let words = long(alloc, words.as_str(), 255)?;
-    let second = make(alloc, &mut cache, words.as_str(), 3, true)?;
-    if first.is_some() || second.is_some() {
-        return Err("it isn't made".into());
-    }
+    make_nested(alloc, &mut cache, 1)?;
+    make_nested(alloc, &mut cache, 2)?;
     Ok(cache)
+}
+
+// The reply that lists one such name.
+fn one_name(alloc: Global) -> Result<Reply, Fail> {
+    let mut names = Texts::new(alloc);
+    names.push(Text::of(longest(alloc)?))?;
+    Ok(Reply::Names(names))
+}
+
+fn has_one_name(alloc: Global, cache: &Cache, path: &str) -> Result<bool, Fail> {
+    Ok(listed(alloc, cache, path, "")? == one_name(alloc)?)
 }
 
 fn lists_long_names(alloc: Global) -> Result<bool, Fail> {
     let cache = two_deep(alloc)?;
-    let want = one_name(alloc, 255)?;
-    let within = long(alloc, "/", 255)?;
-    let inner = listed(alloc, &cache, within.as_str(), "")?;
-    Ok(listed(alloc, &cache, "/", "")? == want && inner == want)
+    let within = nested(alloc, 1)?;
+    Ok(has_one_name(alloc, &cache, "/")? && has_one_name(alloc, &cache, within.as_str())?)
 }
 
 // A name of the greatest length that isn't found again.

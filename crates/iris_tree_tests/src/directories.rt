@@ -1,10 +1,10 @@
 //! Paths are made and moved over a cache, with ample memory.
 
-use crate::keeping::settle_all;
-use crate::planning::{fresh, listed, make, rename, told};
 use iris_cache::Cache;
-use iris_name::{Bytes, FileId, Name, PlainError, Reply};
+use iris_name::{Bytes, PlainError, Reply};
 use iris_node::encode;
+use iris_testing::planning::{ROOT, fresh, listed, make, rename, told};
+use iris_upkeep::settle_all;
 use std::alloc::Global;
 use std::test::Fail;
 
@@ -124,10 +124,8 @@ fn moves_a_row(rt: HostRuntime) -> Result<(), Fail> {
 
 // The record of the root once all nodes are settled.
 fn root_record(alloc: Global, cache: &mut Cache) -> Result<Bytes, Fail> {
-    settle_all(alloc, cache)?;
-    let root = cache
-        .find(&Name::Entry { id: FileId(0) })
-        .ok_or("the root")?;
+    settle_all(cache, &ROOT);
+    let root = cache.find(&ROOT).ok_or("the root")?;
     Ok(encode(alloc, &root.node)?)
 }
 
@@ -139,11 +137,17 @@ fn record_after(alloc: Global, cache: &mut Cache, from: &str, to: &str) -> Resul
     root_record(alloc, cache)
 }
 
+// The records of the root once a file is moved away, and once it is back.
+fn records_away_and_back(alloc: Global, cache: &mut Cache) -> Result<(Bytes, Bytes), Fail> {
+    let away = record_after(alloc, cache, "/a/f", "/b/g")?;
+    let back = record_after(alloc, cache, "/b/g", "/a/f")?;
+    Ok((away, back))
+}
+
 fn comes_back(alloc: Global) -> Result<bool, Fail> {
     let mut cache = one_file(alloc)?;
     let first = root_record(alloc, &mut cache)?;
-    let away = record_after(alloc, &mut cache, "/a/f", "/b/g")?;
-    let back = record_after(alloc, &mut cache, "/b/g", "/a/f")?;
+    let (away, back) = records_away_and_back(alloc, &mut cache)?;
     Ok(first.as_slice() != away.as_slice() && first.as_slice() == back.as_slice())
 }
 

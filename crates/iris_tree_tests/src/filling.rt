@@ -3,17 +3,15 @@
 ghost use Rattle.std.specs.Prelude.{◌<◌, ◌≤◌};
 ghost use Rattle.iris_version_tree.specs.Versions.{places};
 
-use crate::fetching::{fetch, record_of, take_in};
-use crate::planning::land;
 use iris_cache::{Cache, Draft, Short};
-use iris_name::{Bytes, Expect, FileId, Hash32, Name};
+use iris_name::{Bytes, Expect, Hash32, Name};
 use iris_node::{Body, Node, Side};
+use iris_testing::fetching::{fetch, record_of, take_in};
+use iris_testing::planning::land;
+use iris_testing::versions::FILE;
 use iris_version_tree::{is_file, plan_set};
 use std::alloc::Global;
 use std::test::Fail;
-
-// The first file that a table makes.
-pub(crate) const FILE: FileId = FileId(2);
 
 pub(crate) const ENTRY: Name = Name::Entry { id: FILE };
 

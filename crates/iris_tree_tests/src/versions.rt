@@ -3,28 +3,14 @@
 ghost use Rattle.std.specs.Prelude.{◌<◌, ◌≤◌};
 ghost use Rattle.iris_version_tree.specs.Versions.{places};
 
-use crate::fetching::take_in;
-use crate::filling::{FILE, side_in};
-use crate::planning::land;
+use crate::filling::side_in;
 use iris_cache::{Cache, Draft};
 use iris_name::Name;
 use iris_node::Side;
-use iris_version_tree::{first_written, is_file, plan_set, version_at};
+use iris_testing::versions::{FILE, cache_of_a_file, set_versions};
+use iris_version_tree::{first_written, is_file, version_at};
 use std::alloc::Global;
 use std::test::Fail;
-
-// The record of the empty file 2 named `a`.
-const RECORD: [u8; 39] = [
-    1, 2, 0, 0, 0, 0, 0, 0, 0, 2, 1, b'a', 0, 0, 0, 0, 0, 0, 0, 0, 0, 0, 0, 0, 0, 0, 0, 0, 0, 0, 0,
-    0, 0, 0, 0, 0, 0, 0, 0,
-];
-
-// A cache that has a file's entry and no part.
-fn cache_of_a_file(alloc: Global) -> Result<Cache, Fail> {
-    let mut cache = Cache::new(alloc);
-    take_in(alloc, &mut cache, None, &RECORD)?;
-    Ok(cache)
-}
 
 // Gives the places from a low one to before a high one a version.
 #[inline(never)]
@@ -32,12 +18,7 @@ fn set(alloc: Global, cache: &mut Cache, low: u32, high: u32, version: u64) -> R
     requires some { low < high }
     requires within { high ≤ places }
 {
-    let mut draft = Draft::new(alloc);
-    if !is_file(&draft, cache, FILE) {
-        return Err("the file's entry is missing".into());
-    }
-    plan_set(alloc, &mut draft, cache, FILE, low, high, version)?;
-    land(cache, draft)
+    set_versions(alloc, cache, FILE, low, high, version)
 }
 
 // The version of a place, and the least place from it on that isn't a hole.

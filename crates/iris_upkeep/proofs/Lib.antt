@@ -1,9 +1,9 @@
 -- the children of a node: ChildrenOf
--- the lowest marked node: WaysDown, TrueNodes
--- settling from the leaves up: SettlingUp, Stepped, WaysDown, TrueNodes
-pub mod TrueNodes
+-- the lowest marked node: WaysDown
+-- settling from the leaves up: SettlingUp, SettledHash, Stepped, WaysDown
 pub mod ChildrenOf
 pub mod WaysDown
 pub mod Stepped
 pub mod SettlingUp
+pub mod SettledHash
 mod Examples

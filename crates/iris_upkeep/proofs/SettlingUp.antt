@@ -23,10 +23,10 @@ use Rattle.iris_cache.specs.Resident.{Resident, held_node, map_if, resident_pare
 use Rattle.iris_cache.specs.Settled.{Settles}
 use Rattle.iris_cache.proofs.Rising.{or-split, or-left, or-right, above-none, above-same}
 use Rattle.iris_cache.proofs.Settling.{set-hash-keeps}
+use Rattle.iris_cache.proofs.TrueNodes.{settled-true}
 use Rattle.iris_upkeep.specs.declared.descent.What.TheVariants.{Unsettled}
 use Rattle.iris_upkeep.specs.Marks.{HasMark, IsAtOrBelow, IsMarked, HoldsHashOf}
 use Rattle.iris_upkeep.specs.SettlesInto.{StaysOrIsTold}
-use Rattle.iris_upkeep.proofs.TrueNodes.{settled_true}
 use Rattle.iris_upkeep.proofs.WaysDown.{IsWayDown, way-up, size-at, differ, held-by, marked-member, way-distinct, way-marked, way-more}
 use Rattle.iris_upkeep.proofs.Stepped.{Stepped, loose-stepped, parent-stepped, IsOver, over-stepped, not-both, pointed, held-of, over-member}
 
@@ -36,7 +36,7 @@ module _ (t : Shown) (c e : Resident) (n : Name) (h : Held) (pic : Pictures t c)
     (ready : (q : Name) (g : Held) → held_node c q ≡ Some g → g.parent ≡ Some n → g.settled ≡ true)
     (is : (q : Name) → held_node e q ≡ map_if (points (resident_parent c n) q) (with_hash n (hash h.node)) (map_if (same_name n q) settled_so (held_node c q))) where
   one-pictures : Pictures t e
-  one-pictures = set-hash-keeps t c e n (hash h.node) pic formed (λ u live. ap (option_map hash) (settled_true t c n u h pic tree formed at live ready)) ready is
+  one-pictures = set-hash-keeps t c e n (hash h.node) pic formed (λ u live. ap (option_map hash) (settled-true t c n u h pic tree formed at live ready)) ready is
 
   of-parent : resident_parent c n ≡ h.parent
   of-parent = ap parent_in at
@@ -146,6 +146,14 @@ module _ (t : Shown) (old c : Resident) (from at : Name) (step : ℕ) (tree : Is
         new = so.new;
         over = so.over;
       }
+
+  top-of : (above : List Name) → IsWayDown t c Unsettled from above at → resident_parent c at ≡ None → at ≡ from
+  top-of [] w none = w
+  top-of (p ∷ ps) w none = absurd (true≢false (ap (λ (o : Option Name). is_some o) (sym w.1 ∙ none)))
+
+  -- no node but the one where it started is without a parent
+  pub orphan-is-top : resident_parent c at ≡ None → at ≡ from
+  orphan-is-top none = top-of so.above so.way none
 
   -- more steps than twice what is resident can't be
   pub bounded : step < 2 * length c.nodes
@@ -276,13 +284,6 @@ module _ (t : Shown) (old c : Resident) (from at : Name) (step : ℕ) (tree : Is
 
     pub ascends : (p : Name) → resident_parent c at ≡ Some p → (at ≡ from → ⊥) → Progress t old e from p (step + 1)
     ascends p up apart = climbs p so.above so.way so.steps up apart
-
-    top-of : (above : List Name) → IsWayDown t c Unsettled from above at → resident_parent c at ≡ None → at ≡ from
-    top-of [] w none = w
-    top-of (p ∷ ps) w none = absurd (true≢false (ap (λ (o : Option Name). is_some o) (sym w.1 ∙ none)))
-
-    pub ends-at-top : resident_parent c at ≡ None → Settling t old e from
-    ends-at-top none = ends (top-of so.above so.way none)
 
 -- ---- all at and below a settled node are settled
 

@@ -8,38 +8,14 @@ use Rattle.iris_name.specs.Names.{same_name}
 use Rattle.iris_name.specs.NameLaws.{same_name-true}
 use Rattle.iris_name.specs.declared.name.Hash32.{Hash32}
 use Rattle.iris_name.specs.declared.name.Name.{Name}
-use Rattle.iris_node.specs.declared.node.Side.{Side}
-use Rattle.iris_node.specs.declared.node.Side.TheVariants.{Fold, Below}
-use Rattle.iris_node.specs.declared.node.Link.{Link}
-use Rattle.iris_node.specs.declared.node.Body.{Body}
-use Rattle.iris_node.specs.declared.node.Body.TheVariants.{Dir, File}
-use Rattle.iris_node.specs.declared.node.Node.{Node}
-use Rattle.iris_node.specs.declared.node.Node.TheVariants.{Entry, Part}
-use Rattle.iris_node.specs.Fields.{EntryFields}
-use Rattle.iris_node.specs.Local.{FolderAt, LeafAt, SplitAt, local_of, led_by, even_by, entry_local}
 use Rattle.iris_cache.specs.declared.held.Held.{Held}
 use Rattle.iris_cache.specs.Held.{points, settled_so}
-use Rattle.iris_cache.specs.Rehash.{relinked, resided, rebodied, reentered, rehashed, with_hash, top_part, low_part, high_part}
+use Rattle.iris_cache.specs.Rehash.{with_hash}
 use Rattle.iris_cache.specs.Resident.{Resident, held_node, map_if, parent_in}
+use Rattle.iris_cache.proofs.Settling.{local-same}
 use Rattle.iris_upkeep.specs.declared.descent.What.TheVariants.{Unsettled}
 use Rattle.iris_upkeep.specs.Marks.{HasMark}
 use Rattle.iris_upkeep.specs.SettlesInto.{SettlesInto}
-
-led-same : (n : Name) (x : Hash32) (l : Option Link) → led_by (relinked n x l) ≡ led_by l
-led-same n x None = refl
-led-same n x (Some l) = refl
-
-even-same : (b : Bool) (x : Hash32) (s : Side) → even_by (resided b x s) ≡ even_by s
-even-same b x (Fold v) = refl
-even-same b x (Below h) = refl
-
-entry-same : (n : Name) (x : Hash32) (e : EntryFields) (b : Body) → entry_local (reentered n x e) (rebodied n x e.id b) ≡ entry_local e b
-entry-same n x e (Dir top) = λ i. FolderAt e.id.0 e.name (led-same n x e.left i) (led-same n x e.right i) (led-same n x top i)
-entry-same n x e (File size counter versions) = λ i. LeafAt e.id.0 e.name (led-same n x e.left i) (led-same n x e.right i) size counter (even-same (same_name (top_part e.id) n) x versions i)
-
-local-same : (n : Name) (x : Hash32) (k : Node) → local_of (rehashed n x k) ≡ local_of k
-local-same n x (Entry e) = entry-same n x e e.body
-local-same n x (Part p) = λ i. SplitAt p.file.0 p.level p.index (even-same (same_name (low_part p) n) x p.low i) (even-same (same_name (high_part p) n) x p.high i)
 
 pub into-same : (o : Option Held) → SettlesInto o o
 into-same None = tt

@@ -18,10 +18,10 @@ use Rattle.iris_cache.specs.Pictures.{Holds, Pictures}
 use Rattle.iris_cache.specs.Resident.{Resident, held_node, resident_parent, parent_in}
 use Rattle.iris_cache.proofs.Children.{held-child}
 use Rattle.iris_cache.proofs.Rising.{or-left, or-right, or-split}
+use Rattle.iris_cache.proofs.TrueNodes.{child-held}
 use Rattle.iris_upkeep.specs.declared.descent.What.{What}
 use Rattle.iris_upkeep.specs.Children.{HasHash}
 use Rattle.iris_upkeep.specs.Marks.{HasMark, IsAtOrBelow, IsMarked, HoldsHashOf}
-use Rattle.iris_upkeep.proofs.TrueNodes.{child_held}
 
 -- how much lies at and below an unfolded node
 size : Unfolded → ℕ
@@ -135,4 +135,4 @@ module _ (t : Shown) (c : Resident) (pic : Pictures t c) (tree : IsTree t) (form
   -- the parent of a resident node holds a hash of it
   pub held-by : (p n : Name) (h : Held) (o : Option Held) → held_node c p ≡ o → held_node c n ≡ Some h → h.parent ≡ Some p → IsSomeAnd o (λ g. HasHash (Holds g.node n))
   held-by p n h None e at of = let par = pic.tied n p h at of in absurd (true≢false (sym ((pic.parents n p h at par).1) ∙ ap (λ (o : Option Held). is_some o) e))
-  held-by p n h (Some g) e at of = child_held t p n g.node formed (pic.nodes p g e) (pic.tied n p h at of)
+  held-by p n h (Some g) e at of = child-held t p n g.node formed (pic.nodes p g e) (pic.tied n p h at of)

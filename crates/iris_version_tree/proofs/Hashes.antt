@@ -21,27 +21,17 @@ use Rattle.iris_node.specs.Local.{local, entry_local}
 use Rattle.iris_shape.specs.Folds.{Fold, One, Two, folded}
 use Rattle.iris_shape.specs.Sides.{unfolded_side, part_of}
 use Rattle.iris_cache.specs.declared.held.Held.{Held}
-use Rattle.iris_cache.specs.declared.draft.Change.{Change}
 use Rattle.iris_cache.specs.Rehash.{low_part, high_part, top_part}
 use Rattle.iris_cache.specs.Resident.{Resident, held_node, parent_in, IsSoundCache}
-use Rattle.iris_cache.specs.Drafted.{Drafted, drafted, seen, known_by, there_by, IsDraft}
+use Rattle.iris_cache.specs.Drafted.{Drafted, seen, IsDraft}
 use Rattle.iris_node.specs.Trees.{Shown}
 use Rattle.iris_cache.specs.Pictures.{Pictures, IsLike, Holds, SideHolds, BodyHolds, IsHeldHash, WasHash}
 use Rattle.iris_version_tree.specs.Versions.{HasVersions, HadVersions, IsFileOf, places}
 use Rattle.iris_version_tree.specs.Sides.{part_seen, side_below, side_of_body, side_toward, over_name, held_side}
 use Rattle.iris_version_tree.specs.Reached.{IsTwo, IsSideOf, IsDirectlyOver}
+use Rattle.iris_cache.proofs.OwnNames.{seen_own}
 use Rattle.iris_version_tree.proofs.Levels.{only_top, fits_up}
 use Rattle.iris_version_tree.proofs.Tables.{LikePart, part_like, never_entry, like_top, part_parent}
-
--- ---- a node stands under its own name
-
-own_by : (d : Drafted) (c : Resident) (n : Name) (k : Node) (o : Option Change) (w : Option Held) → IsDraft d → IsSoundCache c → drafted d n ≡ o → held_node c n ≡ w → there_by (known_by o w) ≡ Some k → name_of k ≡ n
-own_by d c n k (Some x) w ds cs de he e = ds.own n x k de e
-own_by d c n k None (Some h) ds cs de he e = let q : h.node ≡ k = cc in sym (ap name_of q) ∙ cs.own n h he
-own_by d c n k None None ds cs de he e = cc
-
-pub seen_own : (d : Drafted) (c : Resident) (n : Name) (k : Node) → IsDraft d → IsSoundCache c → seen d c n ≡ Some k → name_of k ≡ n
-seen_own d c n k ds cs e = own_by d c n k (drafted d n) (held_node c n) ds cs refl refl e
 
 -- ---- the hash that the cache holds of a part
 
@@ -182,15 +172,6 @@ held_was old c file l i le fits pic (inl (v, has)) some =
     let g = some_of (held_node c q) p.1 in
     let k = over_holds old file v l i q g.0.node has o fits two (pic.nodes q g.0 g.1) in
     (k.0, ap (λ o. held_side o i) g.1 ∙ k.1, (pic.hashes q n g.0 k.0 g.1 k.2, is_held c n q h.0 g.0 k.0 h.1 p.0 g.1 k.2))
-
-entry_id : Name → FileId
-entry_id (name.Entry id) = id
-entry_id (name.Part f l i) = f
-entry_id (name.Block f p) = f
-
-pub entry_own : (d : Drafted) (c : Resident) (file : FileId) (e : EntryFields) → IsDraft d → IsSoundCache c → seen d c (name.Entry file) ≡ Some (node.Entry e) → e.id ≡ file
-unfolding entry_id
-entry_own d c file e ds cs at = ap entry_id (seen_own d c (name.Entry file) (node.Entry e) ds cs at)
 
 -- an entry of a file has an id above those of the roots
 pub file_named : (file : FileId) (e : EntryFields) (o : Option Node) → IsEntry e → e.id ≡ file → o ≡ Some (node.Entry e) → IsFileNode o → 2 ≤ file.0

@@ -77,3 +77,22 @@ fn dooms_many(rt: HostRuntime) -> Result<(), Fail> {
     assert!(rt; doom_many(rt.alloc())?);
     Ok(())
 }
+
+// Makes room for two names at a time, and dooms them there.
+fn doom_in_room(alloc: Global) -> Result<bool, Fail> {
+    let mut desks = Desks::new(alloc)?;
+    for id in 0..MANY {
+        desks.room_to_doom(2)?;
+        desks.doom_in_room(&entry(id));
+        desks.doom_in_room(&entry(id + MANY));
+    }
+    let all = desks.doomed().len() == 6000;
+    Ok(all && desks.is_doomed(&entry(0)) && desks.is_doomed(&entry(5999)))
+}
+
+// Room that is refused though there is memory, or that is promised and isn't there.
+#[test]
+fn dooms_many_in_room(rt: HostRuntime) -> Result<(), Fail> {
+    assert!(rt; doom_in_room(rt.alloc())?);
+    Ok(())
+}

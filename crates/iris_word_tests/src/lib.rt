@@ -12,6 +12,8 @@ mod deeds;
 #[cfg(test)]
 mod desks;
 #[cfg(test)]
+mod jobs;
+#[cfg(test)]
 mod logs;
 #[cfg(test)]
 mod paths;

@@ -1,5 +1,6 @@
 use Rattle.std.proofs.Common.{Some, sym, ap, ◌∙◌}
-use Rattle.iris_version_tree.proofs.Hashes.{entry_own, file_named}
+use Rattle.iris_cache.proofs.OwnNames.{entry_own}
+use Rattle.iris_version_tree.proofs.Hashes.{file_named}
 use Rattle.iris_version_tree.proofs.walk.file_entry.Goals as goal
 
 pub returns-clause-own : goal.returns-clause-own

@@ -5,6 +5,7 @@ use Rattle.iris_name.specs.Names.{same_name}
 use Rattle.iris_cache.proofs.HeldChanges.{there}
 use Rattle.iris_cache.proofs.Hangs.{linked-fits, linked-sound, linked-homed, or-parts}
 use Rattle.iris_cache.proofs.LinkCounts.{indexed-mapped, indexed-parent, node-kept}
+use Rattle.iris_cache.proofs.DirtyNodes.{dirty-kept, dirty-parent}
 use Rattle.iris_cache.proofs.IdleNodes.{idle-edited, idle-same, free-mapped, not-missing}
 use Rattle.iris_cache.specs.Idle.{is_free}
 use Rattle.iris_cache.proofs.cache.Cache.link.Goals as goal
@@ -41,6 +42,9 @@ invariant_of-self c =
       idling =
           idle-edited D E c.self.inside.idle c.refile_parent.new.idle (points c.args.parent) kid_more c.edit_parent-edited.result c.refile_parent.ensures.unsure c.refile_parent.ensures.names second c.edit_parent-edited.ensures.same
           (idle-same C D c.self.inside.idle c.self.inside.idle refl (λ q. ap is_free (first q) ∙ free-mapped (with_parent c.args.parent) (λ h. refl) (same_name c.args.name.now q) (held_node C q)) c.self.invariant.idling);
+      counted =
+          dirty-parent D E c.args.parent kid_more c.self.inside.dirty (λ h. refl) od oe second
+          (dirty-kept C D c.args.name.now (with_parent c.args.parent) c.self.inside.dirty (λ h. refl) c.self.invariant.sound.once od first c.self.invariant.counted);
     }
 
 pub returns-clause-nodes : goal.returns-clause-nodes

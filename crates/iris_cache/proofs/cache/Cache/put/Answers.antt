@@ -7,6 +7,7 @@ use Rattle.iris_cache.specs.Held.{with_kids}
 use Rattle.iris_cache.specs.Resident.{Resident, held_node, has_room, children}
 use Rattle.iris_cache.proofs.Guests.{put-sound, put-none, put-children}
 use Rattle.iris_cache.proofs.LinkCounts.{indexed-came}
+use Rattle.iris_cache.proofs.DirtyNodes.{dirty-came, byte-weight}
 use Rattle.iris_cache.proofs.IdleNodes.{idle-came}
 use Rattle.iris_cache.proofs.cache.Cache.put.Goals as goal
 
@@ -44,6 +45,7 @@ invariant_of-self c =
           ∙ c.self.invariant.homed so q (put-none C E n v s absent c.requires.alone (sym c.name-name.ensures) c.count_children.ensures is c.in-Ok.ensures.unique q none);
       indexed = indexed-came C E c.self.inside.links c.add_node.new.self n v s.once c.in-Ok.ensures.unique absent is c.add_node.ensures.partial c.add_node.ensures.counts c.add_node.ensures.sums c.ranged.ensures c.self.invariant.indexed;
       idling = idle-came C E c.self.inside.idle c.file.new.self n v c.is_free.result c.file.ensures.unsure c.file.ensures.names c.is_free.ensures is c.self.invariant.idling;
+      counted = dirty-came C E n v c.self.inside.dirty _ s.once c.in-Ok.ensures.unique absent is (ap (λ k. c.self.inside.dirty + k) (c.from.ensures ∙ byte-weight c.args.guest.dirty)) c.self.invariant.counted;
     }
 
 pub returns-clause-nodes : goal.returns-clause-nodes

@@ -11,6 +11,7 @@ use Rattle.iris_cache.specs.Resident.{Resident, held_node, children}
 use Rattle.std.specs.Map.{lookup}
 use Rattle.iris_cache.proofs.FlaggedNodes.{flagged-sound, flagged-homed, children-all}
 use Rattle.iris_cache.proofs.LinkCounts.{indexed-all, node-kept}
+use Rattle.iris_cache.proofs.DirtyNodes.{dirty-all}
 use Rattle.iris_cache.proofs.IdleNodes.{idle-released}
 use Rattle.iris_cache.proofs.cache.Cache.release.Goals as goal
 
@@ -31,6 +32,7 @@ invariant_of-self c =
       homed = λ so. flagged-homed C E f t s is oe (λ h. refl) (λ h. refl) same (c.self.invariant.homed so);
       indexed = indexed-all C E c.self.inside.links f (node-kept f (λ h. refl)) all is c.self.invariant.indexed;
       idling = idle-released C E c.self.inside.idle c.file_freed.new.idle c.args.who c.file_freed.ensures.unsure c.file_freed.ensures.names is c.self.invariant.idling;
+      counted = dirty-all C E f c.self.inside.dirty (λ h. refl) all c.self.invariant.counted;
     }
 
 pub returns-clause-nodes : goal.returns-clause-nodes

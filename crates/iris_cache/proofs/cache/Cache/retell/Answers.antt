@@ -6,6 +6,7 @@ use Rattle.iris_cache.specs.Resident.{Resident, held_node}
 use Rattle.iris_cache.proofs.FlaggedNodes.{flagged-sound, flagged-homed, rehash-name}
 use Rattle.iris_cache.proofs.HeldChanges.{children-kept}
 use Rattle.iris_cache.proofs.LinkCounts.{indexed-mapped, hash-kept}
+use Rattle.iris_cache.proofs.DirtyNodes.{dirty-kept}
 use Rattle.iris_cache.proofs.IdleNodes.{idle-same, free-mapped}
 use Rattle.iris_cache.specs.Idle.{is_free}
 use Rattle.iris_cache.proofs.cache.Cache.retell.Goals as goal
@@ -28,4 +29,5 @@ invariant_of-self c =
       homed = λ so. flagged-homed C E f (same_name n) s is oe (λ h. rehash-name m x h.node) (λ h. refl) same (c.self.invariant.homed so);
       indexed = indexed-mapped C E c.self.inside.links n f (hash-kept m x) s.once oe is c.self.invariant.indexed;
       idling = idle-same C E c.self.inside.idle c.self.inside.idle refl (λ q. ap is_free (is q) ∙ free-mapped f (λ h. refl) (same_name n q) (held_node C q)) c.self.invariant.idling;
+      counted = dirty-kept C E n f c.self.inside.dirty (λ h. refl) s.once oe is c.self.invariant.counted;
     }

@@ -6,6 +6,7 @@ use Rattle.iris_cache.specs.Resident.{Resident, held_node}
 use Rattle.iris_cache.proofs.FlaggedNodes.{rewritten-sound, rewritten-homed, renewed-own}
 use Rattle.iris_cache.proofs.HeldChanges.{children-kept}
 use Rattle.iris_cache.proofs.LinkCounts.{indexed-renewed}
+use Rattle.iris_cache.proofs.DirtyNodes.{dirty-kept}
 use Rattle.iris_cache.proofs.IdleNodes.{idle-same, free-mapped}
 use Rattle.iris_cache.specs.Idle.{is_free}
 use Rattle.iris_cache.proofs.cache.Cache.rewrite.Goals as goal
@@ -27,4 +28,5 @@ invariant_of-self c =
       homed = λ so. rewritten-homed C E f (same_name n) s is oe own (λ h. refl) same (c.self.invariant.homed so);
       indexed = indexed-renewed C E c.self.inside.links c.exchange_links.new.links n c.args.node s.once oe is c.exchange_links.ensures.partial c.exchange_links.ensures.counts c.exchange_links.ensures.sums c.ranged.ensures c.self.invariant.indexed;
       idling = idle-same C E c.self.inside.idle c.self.inside.idle refl (λ q. ap is_free (is q) ∙ free-mapped f (λ h. refl) (same_name n q) (held_node C q)) c.self.invariant.idling;
+      counted = dirty-kept C E n f c.self.inside.dirty (λ h. refl) s.once oe is c.self.invariant.counted;
     }

@@ -6,6 +6,7 @@ use Rattle.std.specs.List.{count_by}
 use Rattle.iris_cache.specs.Held.{is_child}
 use Rattle.iris_cache.proofs.EmptyPlaces.{roomy-sound, not-there}
 use Rattle.iris_cache.proofs.LinkCounts.{indexed-again}
+use Rattle.iris_cache.proofs.DirtyNodes.{dirty-again}
 use Rattle.iris_cache.proofs.IdleNodes.{idle-again}
 use Rattle.iris_cache.proofs.cache.Cache.room.Goals as goal
 
@@ -28,6 +29,7 @@ invariant_of-self-2 c =
       sound = roomy-sound C E n s absent nodes c.in_ok-insert.ensures.updates.0 (omega (arith, l1, l2, few, more));
       places = omega (arith, spare, more, l3);
       homed = λ so q none. ap (λ l. count_by (is_child q) (values_of l)) nodes ∙ c.self.invariant.homed so q (sym (ap (λ l. lookup (same_name q) l) nodes) ∙ none);
-      indexed = indexed-again C E c.self.inside.links c.reserve-2.new.self nodes c.in_ok-reserve-2.ensures c.self.invariant.indexed;
+      indexed = indexed-again C E c.self.inside.links c.reserve-2.new.self nodes c.in_ok-reserve-2.ensures.same c.self.invariant.indexed;
       idling = idle-again C E c.self.inside.idle c.reserve-3.new.self nodes c.in_ok-reserve-3.ensures c.self.invariant.idling;
+      counted = dirty-again C E c.self.inside.dirty nodes c.self.invariant.counted;
     }

@@ -8,6 +8,7 @@ use Rattle.iris_cache.specs.Held.{is_child}
 use Rattle.iris_cache.specs.Resident.{Resident, held_node, has_room}
 use Rattle.iris_cache.proofs.EmptyPlaces.{roomier-sound, still-free}
 use Rattle.iris_cache.proofs.LinkCounts.{indexed-again}
+use Rattle.iris_cache.proofs.DirtyNodes.{dirty-again}
 use Rattle.iris_cache.proofs.IdleNodes.{idle-again}
 use Rattle.iris_cache.proofs.cache.Cache.room_for.Goals as goal
 
@@ -35,6 +36,7 @@ invariant_of-self-2 c =
       sound = roomier-sound C E s nodes free (omega (arith, n, p, l, few, same, most));
       places = omega (arith, n, p, spare, same, most);
       homed = λ so q none. ap (λ l. count_by (is_child q) (values_of l)) nodes ∙ c.self.invariant.homed so q (sym (ap (λ l. lookup (same_name q) l) nodes) ∙ none);
-      indexed = indexed-again C E c.self.inside.links c.reserve-2.new.self nodes c.in_ok-reserve-2.ensures c.self.invariant.indexed;
+      indexed = indexed-again C E c.self.inside.links c.reserve-2.new.self nodes c.in_ok-reserve-2.ensures.same c.self.invariant.indexed;
       idling = idle-again C E c.self.inside.idle c.reserve-3.new.self nodes c.in_ok-reserve-3.ensures c.self.invariant.idling;
+      counted = dirty-again C E c.self.inside.dirty nodes c.self.invariant.counted;
     }

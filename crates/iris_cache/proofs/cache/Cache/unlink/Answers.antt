@@ -6,6 +6,7 @@ use Rattle.iris_cache.specs.Resident.{Resident, held_node, map_if, parent_in}
 use Rattle.iris_cache.proofs.HeldChanges.{there}
 use Rattle.iris_cache.proofs.Hangs.{unlinked-fits, unlinked-sound, unlinked-homed}
 use Rattle.iris_cache.proofs.LinkCounts.{indexed-mapped, indexed-parent, node-kept}
+use Rattle.iris_cache.proofs.DirtyNodes.{dirty-kept, dirty-parent}
 use Rattle.iris_cache.proofs.IdleNodes.{idle-edited, idle-same, free-mapped}
 use Rattle.iris_cache.specs.Idle.{is_idle, is_free, is_turned}
 use Rattle.iris_cache.proofs.cache.Cache.unlink.Goals as goal
@@ -44,6 +45,9 @@ invariant_of-self c =
       idling =
           idle-edited D E c.self.inside.idle c.refile_parent.new.idle (points t.0.parent) kid_less c.edit_parent-edited.result c.refile_parent.ensures.unsure filed second c.edit_parent-edited.ensures.same
           (idle-same C D c.self.inside.idle c.self.inside.idle refl (λ q. ap is_free (first q) ∙ free-mapped (with_parent None) (λ h. refl) (same_name c.args.name.now q) (held_node C q)) c.self.invariant.idling);
+      counted =
+          dirty-parent D E t.0.parent kid_less c.self.inside.dirty (λ h. refl) od oe second
+          (dirty-kept C D c.args.name.now (with_parent None) c.self.inside.dirty (λ h. refl) c.self.invariant.sound.once od first c.self.invariant.counted);
     }
 
 pub returns-clause-nodes : goal.returns-clause-nodes

@@ -1,8 +1,8 @@
-use Rattle.std.proofs.Common.{List, refl, sym, subst}
+use Rattle.std.proofs.Common.{List, refl, sym, subst, arith}
 use Rattle.iris_desk.specs.AtDesk.{DeskState}
 use Rattle.iris_desk.specs.AtDesks.{AreDesksSound}
 use Rattle.iris_desk.proofs.Keeping.{empty_sound}
 use Rattle.iris_desk.proofs.desks.Desks.new.Goals as goal
 
 pub invariant_of-result : goal.invariant_of-result
-invariant_of-result c = subst (λ (l : List DeskState). AreDesksSound (record { desks = l; doomed = c.new.result.keys })) (sym c.in_ok-desks.ensures) (empty_sound 17 c.new.result.keys refl c.new.ensures.unique)
+invariant_of-result c = record { sound = subst (λ (l : List DeskState). AreDesksSound (record { desks = l; doomed = c.new.result.keys; room = 0 })) (sym c.in_ok-desks.ensures) (empty_sound 17 c.new.result.keys refl c.new.ensures.unique); room = omega arith }

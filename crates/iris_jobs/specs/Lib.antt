@@ -1,0 +1,3 @@
+pub mod Keyed
+pub mod Jobs
+pub mod Chores
