@@ -21,10 +21,3 @@ pub mod RightAnswers
 pub mod BroughtNodes
 pub mod BroughtPages
 mod ExamplesOfTransfers
-pub mod RootsAbove
-pub mod SettledRoots
-pub mod SettledCells
-pub mod DraftsMade
-pub mod BlocksOfCalls
-pub mod PlannedCalls
-pub mod IdleCalls

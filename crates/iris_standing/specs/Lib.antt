@@ -4,4 +4,3 @@ pub mod Quiet
 pub mod Transfers
 pub mod ChoresBegin
 pub mod GetsKept
-pub mod Calls
