@@ -1,7 +1,6 @@
 -- Puts of true records and discards of names that went begin.
 use Rattle.std.proofs.Common.{◌≡◌, ◌||◌, ℕ, List, Bool, true, false, Option, Some, None, IsNone, refl, sym, ◌∙◌, ap, subst, true≢false}
 use Rattle.iris_cache.specs.declared.held.Held.{Held}
-use Rattle.iris_cache.specs.Pictures.{IsLike}
 use Rattle.iris_cache.specs.Resident.{held_node}
 use Rattle.iris_desk.specs.AtDesks.{asked_by, is_doomed}
 use Rattle.iris_desk.specs.declared.out.Record.TheVariants as written
@@ -24,17 +23,16 @@ use Rattle.iris_name.specs.declared.name.Name.{Name}
 use Rattle.iris_name.specs.declared.name.Name.TheVariants.{Entry, Part, Block}
 use Rattle.iris_name.specs.declared.note.Expect.{Expect}
 use Rattle.iris_name.specs.History.{Past}
-use Rattle.iris_node.specs.Local.{local, local_of}
 use Rattle.iris_node.specs.Spelling.{spelling}
-use Rattle.iris_node.specs.Trees.{Shown, IsNodeName, node_name}
-use Rattle.iris_node.specs.Unfolded.{Unfolded, Absent, Folder, Leaf, Even, Split, Stored, id_of, node_of, node_record, spelled_node}
-use Rattle.iris_node.specs.declared.node.Node.{Node}
+use Rattle.iris_node.specs.Trees.{IsNodeName}
+use Rattle.iris_node.specs.Unfolded.{Unfolded, Absent, Folder, Leaf, Even, Split, Stored, node_of, node_record, spelled_node}
 use Rattle.iris_pool.specs.Changes.{HoldsAlike}
 use Rattle.iris_pool.specs.Pool.{PoolState}
 use Rattle.iris_records.specs.Records.{spelled}
 use Rattle.iris_standing.specs.Standing.{Standing, AgreesWith, leads_to, seen, with_pool}
 use Rattle.iris_standing.specs.ChoresBegin as l
-use Rattle.iris_standing.proofs.CarriedOver.{carried_alike, kept_alike, same_holds}
+use Rattle.iris_standing.proofs.CachedNodes.{IsCachedAt, cached_at}
+use Rattle.iris_standing.proofs.CarriedOver.{carried_alike, kept_before, same_holds}
 use Rattle.std.specs.Prelude.{is_some}
 
 -- what begins, and is no get, leaves all else that agrees
@@ -45,7 +43,7 @@ begun opened past s p n o no_get b alike h agrees = carried_alike opened past pa
   alike = alike;
   agrees = agrees;
   parents = (parents_stay (files s.keys)).begins leads_to past n o (seen s) (seen (with_pool p s)) h.parents b (λ expect d q u live leads. absurd (no_get expect d));
-  evidence = λ who q kept. h.evidence who q (kept_alike n (seen s) (seen (with_pool p s)) b.rest b.pins who q kept);
+  evidence = λ who q kept. h.evidence who q (kept_before n (seen s) (seen (with_pool p s)) b.rest b.pins who q kept);
   fewer = others_mark_nothing.begins n o (seen s) (seen (with_pool p s)) b;
 })
 
@@ -57,27 +55,9 @@ no_discard expect e = cc
 
 -- ---- nodes
 
--- what says something by itself is a node
-said_name : (u : Unfolded) (k : Node) → local u ≡ Some (local_of k) → (m : Name) × (node_name u ≡ Some m) × IsNodeName m
-said_name (Folder id name less more inside) k e = (Entry (id_of id), refl, tt)
-said_name (Leaf id name less more size counter versions) k e = (Entry (id_of id), refl, tt)
-said_name (Split file level index low high) k e = (Part (id_of file) level index, refl, tt)
-said_name Absent k e = absurd (cc)
-said_name (Even version) k e = absurd (cc)
-said_name (Stored version bytes) k e = absurd (cc)
-
--- A cached node is what its name stands for.
-record IsCached (t : Shown) (n : Name) (h : Held) : Type 0 where
-  u : Unfolded
-  live : t n ≡ Some u
-  is_node : IsNodeName n
-
-cached : (opened : ℕ) (past : Past) (s : Standing) (n : Name) (h : Held) → AgreesWith opened past s → held_node s.pool.nodes n ≡ Some h → IsCached (shown_after s.keys past) n h
-cached opened past s n h w at = by (shown_after s.keys past n) refl (w.shows.pictures.nodes n h at) where
-  by : (o : Option Unfolded) → shown_after s.keys past n ≡ o → IsLike o h.node → IsCached (shown_after s.keys past) n h
-  by None e like = absurd like
-  by (Some u) e like = let m = said_name u h.node like in
-      record { u = u; live = e; is_node = subst IsNodeName ((stands_tree s.keys.order (files_after s.keys past) w.shows.sound).own n m.0 u e m.1) m.2 }
+cached : (opened : ℕ) (past : Past) (s : Standing) (n : Name) (h : Held) → AgreesWith opened past s → held_node s.pool.nodes n ≡ Some h → IsCachedAt (shown_after s.keys past) n
+cached opened past s n h w at =
+    cached_at (shown_after s.keys past) n h.node (shown_after s.keys past n) (stands_tree s.keys.order (files_after s.keys past) w.shows.sound) refl (w.shows.pictures.nodes n h at)
 
 -- the record of a node's name is that of its node
 record_of_node : (key : List ℕ) (n : Name) (u : Unfolded) → IsNodeName n → spelled key n u ≡ node_record u

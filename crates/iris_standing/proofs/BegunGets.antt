@@ -1,12 +1,9 @@
 -- A get begins of what a request needs: it may, and the parent of its name is cached.
 use Rattle.std.proofs.Common.{◌≡◌, ◌⊎◌, inl, inr, ℕ, zero, suc, List, Bool, true, false, Option, Some, None, IsSome, is_some, refl, ap, sym, ◌∙◌, subst, arith}
 use Rattle.iris_blocks.specs.declared.held.PageHeld.{PageHeld}
-use Rattle.iris_blocks.specs.Paged.{held_page}
 use Rattle.iris_cache.specs.declared.held.Held.{Held}
-use Rattle.iris_cache.specs.Laws.{AreAlike}
 use Rattle.iris_cache.specs.Pictures.{IsHashOf}
 use Rattle.iris_cache.specs.Resident.{held_node}
-use Rattle.iris_cache.proofs.Keeping.{alike-keeps}
 use Rattle.iris_file_rules.specs.FileTable.{files}
 use Rattle.iris_file_rules.specs.Rules.{file_rules, files_after, shown_after}
 use Rattle.iris_file_rules.proofs.FileRecords.{hash_true}
@@ -28,17 +25,15 @@ use Rattle.iris_name.specs.declared.note.Expect.{Expect}
 use Rattle.iris_name.specs.declared.note.Expect.TheVariants.{Hash}
 use Rattle.iris_name.specs.declared.request.Request.{Request}
 use Rattle.iris_name.specs.History.{Past}
-use Rattle.iris_name.specs.Names.{same_name}
 use Rattle.iris_node.specs.Trees.{IsParent, IsRootName, node_name}
 use Rattle.iris_node.specs.Unfolded.{Unfolded, Absent, Folder, Leaf, Even, Split, Stored, id_of}
 use Rattle.iris_pool.specs.Pool.{PoolState}
 use Rattle.iris_pool.specs.View.{pool_view}
 use Rattle.iris_requests.specs.Needed.{IsAbsent, IsNeeded}
 use Rattle.iris_table_laws.proofs.NodeParents.{roots_have_none}
-use Rattle.std.specs.Map.{lookup}
 use Rattle.iris_standing.specs.Standing.{Standing, with_pool, seen, leads_to, AgreesWith}
 use Rattle.iris_standing.specs.Quiet.{expected_at, expected_of, GetsGoOn}
-use Rattle.iris_standing.proofs.ExchangedPools.{each_settled, exchanged, kept_alike}
+use Rattle.iris_standing.proofs.CarriedOver.{carried_alike, kept_before, lists_alike, trash_is, visible_is}
 use Rattle.iris_standing.proofs.LinkedNames.{leading_name, leading_parent}
 
 -- a live name that is absent is unmarked
@@ -66,10 +61,6 @@ cached_cell key p u (Block f q) e held = absurd (by u e) where
   by (Even version) g = cc
   by (Stored version bytes) g = cc
 
-alike_same : (o : Option Held) → AreAlike o o
-alike_same None = tt
-alike_same (Some h) = (refl, (refl, refl))
-
 entry_number : (i j : FileId) → Entry i ≡ Entry j → i.0 ≡ j.0
 entry_number i j e = let same : i ≡ j = cc in ap (λ (x : FileId). x.0) same
 
@@ -84,8 +75,8 @@ module _ (opened : ℕ) (past : Past) (s : Standing) (a : AgreesWith opened past
 
   expected_entry : (id : FileId) (x : Expect) (i : ℕ) → id.0 ≡ i → IsSome (shown_after s.keys past (Entry id))
       → IsRootName (Entry id) ⊎ IsTrueOf (files s.keys) (Entry id) x (shown_after s.keys past (Entry id)) → IsTrueOf (files s.keys) (Entry id) (expected_at s x i) (shown_after s.keys past (Entry id))
-  expected_entry id x zero e live w = root_hash 0 id s.visible e live (a.visible (each_settled opened past s a (Entry (id_of 0))))
-  expected_entry id x (suc zero) e live w = root_hash 1 id s.trash e live (a.trash (each_settled opened past s a (Entry (id_of 1))))
+  expected_entry id x zero e live w = root_hash 0 id s.visible e live (visible_is opened past s a)
+  expected_entry id x (suc zero) e live w = root_hash 1 id s.trash e live (trash_is opened past s a)
   expected_entry id x (suc (suc i)) e live (inl root) = absurd (no_root id i e root)
   expected_entry id x (suc (suc i)) e live (inr is) = is
 
@@ -120,17 +111,11 @@ module _ (opened : ℕ) (past : Past) (s : Standing) (a : AgreesWith opened past
       ]
 
 pub gets_go_on : GetsGoOn
-gets_go_on opened past s p who since request n x at asked need b nodes pages a = exchanged opened past s p a (record {
+gets_go_on opened past s p who since request n x at asked need b nodes pages a = carried_alike opened past past s p a (record {
+  table = refl;
+  alike = lists_alike s.pool p nodes pages;
   agrees = gets_begin (files s.keys) (file_rules s.keys) opened past (seen s) (seen (with_pool p s)) who since n request (expected_of s n x) at (may_get opened past s a who request n x asked need) b a.agrees;
-  pictures = alike-keeps (shown_after s.keys past) s.pool.nodes p.nodes a.shows.pictures (λ q. subst (λ o. AreAlike (held_node s.pool.nodes q) o) (same_nodes q) (alike_same (held_node s.pool.nodes q)));
-  shows = λ q h e. a.shows.shows q h (same_pages q ∙ e);
-  settled = λ q h e. a.settled q h (same_nodes q ∙ e);
   parents = (parents_stay (files s.keys)).begins leads_to past n (begun_out who since (Some request) (Getting (expected_of s n x)) false) (seen s) (seen (with_pool p s)) a.parents b (λ y e. parent_cached opened past s a request n x need);
-  kept = λ w q e. sym (kept_alike n (seen s) (seen (with_pool p s)) b.rest b.pins w q) ∙ e;
-  marks = others_mark_nothing.begins n (begun_out who since (Some request) (Getting (expected_of s n x)) false) (seen s) (seen (with_pool p s)) b;
-}) where
-  same_nodes : (q : Name) → held_node s.pool.nodes q ≡ held_node p.nodes q
-  same_nodes q = ap (λ l. lookup (same_name q) l) (sym nodes)
-
-  same_pages : (q : Name) → held_page s.pool.pages q ≡ held_page p.pages q
-  same_pages q = ap (λ l. lookup (same_name q) l) (sym pages)
+  evidence = λ w q e. a.evidence w q (kept_before n (seen s) (seen (with_pool p s)) b.rest b.pins w q e);
+  fewer = others_mark_nothing.begins n (begun_out who since (Some request) (Getting (expected_of s n x)) false) (seen s) (seen (with_pool p s)) b;
+})

@@ -1,5 +1,5 @@
 -- A node that a get brings is the table's with its true hashes, and goes below the parent that the cache names.
-use Rattle.std.proofs.Common.{◌≡◌, inl, inr, ◌&&◌, ◌||◌, ℕ, ◌∷◌, List, [], Bool, true, false, cond, Option, Some, None, refl, sym, ◌∙◌, ap, subst, true≢false}
+use Rattle.std.proofs.Common.{◌≡◌, inl, inr, ◌&&◌, ℕ, ◌∷◌, List, [], Bool, true, false, cond, Option, Some, None, refl, sym, ◌∙◌, ap, subst, true≢false}
 use Rattle.std.specs.Map.{lookup}
 use Rattle.std.specs.Prelude.{IsSomeAnd, is_some}
 use Rattle.iris_cache.specs.declared.held.Held.{Held}
@@ -33,7 +33,6 @@ use Rattle.iris_name.specs.declared.request.Request.{Request}
 use Rattle.iris_name.specs.History.{Past}
 use Rattle.iris_name.specs.Hmac.{block_key}
 use Rattle.iris_name.specs.Names.{same_name}
-use Rattle.iris_name.specs.NameLaws.{same_name-refl}
 use Rattle.iris_node.specs.declared.node.Node.{Node}
 use Rattle.iris_node.specs.Nodes.{IsNode, name_of}
 use Rattle.iris_node.specs.Spelling.{spelling}
@@ -47,40 +46,11 @@ use Rattle.iris_pool.specs.View.{out_seen, pool_view}
 use Rattle.iris_pool.proofs.OutSeen.{asked_for, seen_out}
 use Rattle.iris_standing.specs.GetsKept as l
 use Rattle.iris_standing.specs.GetsKept.{IsParentNamed, NodeKept}
-use Rattle.iris_standing.specs.Standing.{Standing, AgreesWith, StandsFor, is_named, leads_to, seen, with_pool}
+use Rattle.iris_standing.specs.Standing.{Standing, AgreesWith, StandsFor, seen, with_pool}
 use Rattle.iris_standing.specs.Transfers.{IsGetOut}
+use Rattle.iris_standing.proofs.LinkedNames.{above_leads}
 use Rattle.iris_standing.proofs.RightAnswers.{IsTold, ShowsTable, gets_now, kept_right, record_passed}
 use Rattle.iris_standing.proofs.SeenTransfers.{seen_as, out_is, cell_is, since_is, get_seen}
-use Rattle.std.specs.Option.{option_map_or}
-
--- ---- who leads to whom
-
-either_left : (a b : Bool) → a ≡ true → (a || b) ≡ true
-either_left true b e = refl
-either_left false b e = absurd (true≢false (sym e))
-
-either_right : (a b : Bool) → b ≡ true → (a || b) ≡ true
-either_right true b e = refl
-either_right false b e = e
-
-named_so : (u : Unfolded) (n : Name) → node_name u ≡ Some n → is_named u n ≡ true
-named_so u n e = ap (λ o. option_map_or (λ m. same_name m n) o false) e ∙ same_name-refl n
-
-at_child : (u w : Unfolded) (n : Name) → u ≡ w → node_name u ≡ Some n → is_named w n ≡ true
-at_child u w n e named = ap (λ z. is_named z n) (sym e) ∙ named_so u n named
-
-above_leads : (u w : Unfolded) (n : Name) → IsAbove u w → node_name w ≡ Some n → leads_to u n ≡ true
-above_leads (Folder id label less more inside) w n (inl e) named = either_left (is_named less n || is_named more n) (is_named inside n) (either_left (is_named less n) (is_named more n) (at_child w less n e named))
-above_leads (Folder id label less more inside) w n (inr (inl e)) named = either_left (is_named less n || is_named more n) (is_named inside n) (either_right (is_named less n) (is_named more n) (at_child w more n e named))
-above_leads (Folder id label less more inside) w n (inr (inr e)) named = either_right (is_named less n || is_named more n) (is_named inside n) (at_child w inside n e named)
-above_leads (Leaf id label less more size counter versions) w n (inl e) named = either_left (is_named less n || is_named more n) (is_named versions n) (either_left (is_named less n) (is_named more n) (at_child w less n e named))
-above_leads (Leaf id label less more size counter versions) w n (inr (inl e)) named = either_left (is_named less n || is_named more n) (is_named versions n) (either_right (is_named less n) (is_named more n) (at_child w more n e named))
-above_leads (Leaf id label less more size counter versions) w n (inr (inr e)) named = either_right (is_named less n || is_named more n) (is_named versions n) (at_child w versions n e named)
-above_leads (Split file level index low high) w n (inl e) named = either_left (is_named low n) (is_named high n) (at_child w low n e named)
-above_leads (Split file level index low high) w n (inr e) named = either_right (is_named low n) (is_named high n) (at_child w high n e named)
-above_leads Nothing w n a named = absurd a
-above_leads (Even version) w n a named = absurd a
-above_leads (Stored version bytes) w n a named = absurd a
 
 -- what stands above another is a node
 above_name : (u w : Unfolded) → IsAbove u w → (m : Name) × (node_name u ≡ Some m) × IsNodeName m

@@ -2,7 +2,7 @@
 use Rattle.std.proofs.Common.{◌≡◌, ◌⊎◌, inl, inr, ℕ, List, [], ◌∷◌, true, false, Option, Some, None, refl, sym, ◌∙◌, ap, subst}
 use Rattle.std.specs.Map.{lookup}
 use Rattle.iris_blocks.specs.declared.held.PageHeld.{PageHeld}
-use Rattle.iris_blocks.specs.Paged.{held_page, Shows}
+use Rattle.iris_blocks.specs.Paged.{Paged, held_page, Shows}
 use Rattle.iris_cache.proofs.Keeping.{alike-keeps}
 use Rattle.iris_cache.specs.declared.held.Held.{Held}
 use Rattle.iris_cache.specs.Laws.{AreAlike}
@@ -39,16 +39,20 @@ settled_by : (o : Option Held) → ((h : Held) → o ≡ Some h → h.settled �
 settled_by None f = tt
 settled_by (Some h) f = f h refl
 
+-- where every cached node is settled, each name is absent or settled
+pub each_settled : (opened : ℕ) (past : Past) (s : Standing) → AgreesWith opened past s → (n : Name) → IsSettled (held_node s.pool.nodes n)
+each_settled opened past s h n = settled_by (held_node s.pool.nodes n) (h.settled n)
+
 -- so the hash that is kept of each root is its true one
 pub visible_is : (opened : ℕ) (past : Past) (s : Standing) → AgreesWith opened past s → IsHashOf (shown_after s.keys past (name.Entry (id_of 0))) s.visible
-visible_is opened past s h = h.visible (settled_by (held_node s.pool.nodes (name.Entry (id_of 0))) (h.settled (name.Entry (id_of 0))))
+visible_is opened past s h = h.visible (each_settled opened past s h (name.Entry (id_of 0)))
 
 pub trash_is : (opened : ℕ) (past : Past) (s : Standing) → AgreesWith opened past s → IsHashOf (shown_after s.keys past (name.Entry (id_of 1))) s.trash
-trash_is opened past s h = h.trash (settled_by (held_node s.pool.nodes (name.Entry (id_of 1))) (h.settled (name.Entry (id_of 1))))
+trash_is opened past s h = h.trash (each_settled opened past s h (name.Entry (id_of 1)))
 
 -- ---- how many are marked
 
-each_several : (P Q : Name → Type 0) → ((n : Name) → P n → Q n) → (ns : List Name) → AreSeveral P ns → AreSeveral Q ns
+pub each_several : (P Q : Name → Type 0) → ((n : Name) → P n → Q n) → (ns : List Name) → AreSeveral P ns → AreSeveral Q ns
 each_several P Q f [] h = tt
 each_several P Q f (n ∷ ns) h = (f n h.0, h.1, each_several P Q f ns h.2)
 
@@ -57,11 +61,15 @@ still_at_most count v v' fewer bound ns h = bound ns (each_several (IsMarkedBloc
 
 -- ---- what is kept
 
-pub kept_alike : (n : Name) (v v' : View) → Elsewhere n v v' → SamePins n v v' → (w : ℕ) (q : Name) → v'.kept w q ≡ true → v.kept w q ≡ true
-kept_alike n v v' rest pins w q kept = by (which n q) where
-  by : (n ≡ q) ⊎ (same_name n q ≡ false) → v.kept w q ≡ true
-  by (inl e) = subst (λ z. v.kept w z ≡ true) e (sym (pins.kept w) ∙ subst (λ z. v'.kept w z ≡ true) (sym e) kept)
-  by (inr d) = sym (rest.kept w q d) ∙ kept
+-- where one name's pins stay, and all elsewhere, the same is kept
+kept_alike : (n : Name) (v v' : View) → Elsewhere n v v' → SamePins n v v' → (w : ℕ) (q : Name) → v'.kept w q ≡ v.kept w q
+kept_alike n v v' rest pins w q = by (which n q) where
+  by : (n ≡ q) ⊎ (same_name n q ≡ false) → v'.kept w q ≡ v.kept w q
+  by (inl e) = subst (λ z. v'.kept w z ≡ v.kept w z) e (pins.kept w)
+  by (inr d) = rest.kept w q d
+
+pub kept_before : (n : Name) (v v' : View) → Elsewhere n v v' → SamePins n v v' → (w : ℕ) (q : Name) → v'.kept w q ≡ true → v.kept w q ≡ true
+kept_before n v v' rest pins w q kept = sym (kept_alike n v v' rest pins w q) ∙ kept
 
 -- ---- what is held
 
@@ -84,8 +92,12 @@ shown_alike t n (Some h) (Some k) a f g e =
     let w : h.page ≡ g.page = sym a.1 ∙ ap (λ (x : PageHeld). x.page) z in
     f h refl ∙ (ap (λ x. Some (Stored x h.page)) v ∙ ap (λ x. Some (Stored g.version x)) w)
 
+-- resident blocks that are alike show the same
+pub alike_shows : (t : Shown) (b e : Paged) → Shows t b → ((n : Name) → ArePagesAlike (held_page b n) (held_page e n)) → Shows t e
+alike_shows t b e shows alike n h at = shown_alike t n (held_page b n) (held_page e n) (alike n) (shows n) h at
+
 pub shows_alike : (t : Shown) (p q : PoolState) → HoldsAlike p q → Shows t p.pages → Shows t q.pages
-shows_alike t p q alike shows n h e = shown_alike t n (held_page p.pages n) (held_page q.pages n) (alike.pages n) (shows n) h e
+shows_alike t p q alike shows = alike_shows t p.pages q.pages shows alike.pages
 
 alike_self : (o : Option Held) → AreAlike o o
 alike_self None = tt
@@ -95,14 +107,18 @@ page_alike_self : (o : Option PageHeld) → ArePagesAlike o o
 page_alike_self None = tt
 page_alike_self (Some h) = (refl, refl)
 
-pub same_holds : (p q : PoolState) → q.nodes ≡ p.nodes → q.pages ≡ p.pages → HoldsAlike p q
-same_holds p q nodes pages = record {
-  nodes = λ n. subst (λ c. AreAlike (held_node p.nodes n) (held_node c n)) (sym nodes) (alike_self (held_node p.nodes n));
-  pages = λ n. subst (λ b. ArePagesAlike (held_page p.pages n) (held_page b n)) (sym pages) (page_alike_self (held_page p.pages n));
-}
-
 pub same_nodes : (p q : PoolState) → q.nodes.nodes ≡ p.nodes.nodes → (n : Name) → AreAlike (held_node p.nodes n) (held_node q.nodes n)
 same_nodes p q e n = subst (λ l. AreAlike (held_node p.nodes n) (lookup (same_name n) l)) (sym e) (alike_self (held_node p.nodes n))
+
+same_pages : (p q : PoolState) → q.pages.pages ≡ p.pages.pages → (n : Name) → ArePagesAlike (held_page p.pages n) (held_page q.pages n)
+same_pages p q e n = subst (λ l. ArePagesAlike (held_page p.pages n) (lookup (same_name n) l)) (sym e) (page_alike_self (held_page p.pages n))
+
+-- where the same is listed, the same is held
+pub lists_alike : (p q : PoolState) → q.nodes.nodes ≡ p.nodes.nodes → q.pages.pages ≡ p.pages.pages → HoldsAlike p q
+lists_alike p q nodes pages = record { nodes = same_nodes p q nodes; pages = same_pages p q pages }
+
+pub same_holds : (p q : PoolState) → q.nodes ≡ p.nodes → q.pages ≡ p.pages → HoldsAlike p q
+same_holds p q nodes pages = lists_alike p q (ap (λ (c : Resident). c.nodes) nodes) (ap (λ (b : Paged). b.pages) pages)
 
 -- ---- all of it
 

@@ -26,29 +26,23 @@ use Rattle.iris_invariant.proofs.EventLaws.{evictions_keep}
 use Rattle.iris_invariant.proofs.ParentLaws.{parents_stay}
 use Rattle.iris_name.specs.declared.name.Hash32.{Hash32}
 use Rattle.iris_name.specs.declared.name.Name.{Name}
-use Rattle.iris_name.specs.declared.name.Name.TheVariants.{Entry, Part, Block}
 use Rattle.iris_name.specs.declared.note.Expect.{Expect}
 use Rattle.iris_name.specs.History.{Past}
 use Rattle.iris_name.specs.Names.{same_name}
 use Rattle.iris_node.specs.Unfolded.{Stored}
 use Rattle.iris_pool.specs.Going.{CanLeave, IsFetched, PageCanLeave}
 use Rattle.iris_pool.specs.Pool.{PoolState}
-use Rattle.iris_pool.specs.View.{doing_by, out_seen, pool_view}
+use Rattle.iris_pool.specs.View.{doing_by, pool_view}
 use Rattle.iris_pool.proofs.OutSeen.{seen_is}
 use Rattle.iris_standing.specs.Standing.{Standing, with_pool, seen, leads_to, AgreesWith}
 use Rattle.iris_standing.specs.Quiet.{NodesLeave, PagesLeave}
-use Rattle.iris_standing.proofs.ExchangedPools.{exchanged, kept_alike}
+use Rattle.iris_standing.proofs.CarriedOver.{carried_over, kept_before}
 use Rattle.iris_standing.proofs.LinkedNames.{leading_parent}
+use Rattle.iris_standing.proofs.SeenTransfers.{cell_out}
 
 that_is : {A : Type 0} (P : A → Type 0) (o : Option A) → IsSomeAnd o P → (h : A) × (o ≡ Some h) × P h
 that_is P None s = absurd s
 that_is P (Some h) s = (h, refl, s)
-
--- what is out for a name, as it is seen in its cell
-out_in_cell : (key : List ℕ) (p : PoolState) (n : Name) → ((pool_view key p).cell n).out ≡ out_seen key p.desks n
-out_in_cell key p (Entry i) = refl
-out_in_cell key p (Part f l i) = refl
-out_in_cell key p (Block f q) = refl
 
 -- a get that is seen is one at a desk
 seen_get : (key : List ℕ) (n : Name) (doing : desk.Doing) (expect : Option Expect) (r : Option Record) (x : Expect) → doing_by key n doing expect r ≡ Getting x → doing ≡ Get
@@ -60,7 +54,7 @@ seen_get key n Settle expect r x e = absurd (cc)
 
 seen_fetched : (key : List ℕ) (p : PoolState) (n : Name) (o : Out) (x : Expect) → ((pool_view key p).cell n).out ≡ Some o → o.doing ≡ Getting x → IsFetched p.desks n
 seen_fetched key p n o x out doing =
-    let at = seen_is key p.desks (out_of p.desks n) o (sym (out_in_cell key p n) ∙ out) in
+    let at = seen_is key p.desks (out_of p.desks n) o (sym (cell_out key p n) ∙ out) in
     let is = seen_get key at.0.1.name at.0.1.doing at.0.1.expect at.0.1.record x (ap (λ (z : Out). z.doing) (sym at.2) ∙ doing) in
     subst (λ z. IsSomeAnd z (λ (q : ℕ × pending.Out). q.1.doing ≡ Get)) (sym at.1) is
 
@@ -84,14 +78,15 @@ no_child opened past s n a leave m o x u out doing live l =
     leave.1 (inr (m, seen_fetched s.keys.block s.pool m o x out doing, subst (λ z. IsSomeAnd z (λ (h : Held). (y : Hash32) × Holds h.node m y)) (sym there.1) holds))
 
 pub nodes_leave : NodesLeave
-nodes_leave opened past s p n sound leave goes b pages a = exchanged opened past s p a (record {
+nodes_leave opened past s p n sound leave goes b pages a = carried_over opened past past s p a (record {
+  table = refl;
   agrees = evictions_keep (files s.keys) (file_rules s.keys) opened past (seen s) (seen (with_pool p s)) n b a.agrees;
   pictures = evict-keeps (shown_after s.keys past) s.pool.nodes p.nodes n there.0 a.shows.pictures sound there.1 there.2 (a.settled n there.0 there.1) goes;
   shows = subst (λ c. Shows (shown_after s.keys past) c) (sym pages) a.shows.shows;
   settled = settled;
   parents = (parents_stay (files s.keys)).evicts leads_to past n (seen s) (seen (with_pool p s)) a.parents b (no_child opened past s n a leave);
-  kept = λ w q e. sym (kept_alike n (seen s) (seen (with_pool p s)) b.rest b.pins w q) ∙ e;
-  marks = others_mark_nothing.evicts n (seen s) (seen (with_pool p s)) b;
+  evidence = λ w q e. a.evidence w q (kept_before n (seen s) (seen (with_pool p s)) b.rest b.pins w q e);
+  fewer = others_mark_nothing.evicts n (seen s) (seen (with_pool p s)) b;
 }) where
   there : (h : Held) × (held_node s.pool.nodes n ≡ Some h) × (stay_of h ≡ None)
   there = that_is (λ (h : Held). stay_of h ≡ None) (held_node s.pool.nodes n) leave.0
@@ -110,12 +105,13 @@ no_child_of_block opened past s n a leave m o x u out doing live l =
     true≢false (sym (subst (λ z. leads_to z m ≡ true) (sym is) l))
 
 pub pages_leave : PagesLeave
-pages_leave opened past s p n leave goes b nodes a = exchanged opened past s p a (record {
+pages_leave opened past s p n leave goes b nodes a = carried_over opened past past s p a (record {
+  table = refl;
   agrees = evictions_keep (files s.keys) (file_rules s.keys) opened past (seen s) (seen (with_pool p s)) n b a.agrees;
   pictures = subst (λ c. Pictures (shown_after s.keys past) c) (sym nodes) a.shows.pictures;
   shows = λ q h e. a.shows.shows q h (was_held (same_name n q) (held_page s.pool.pages q) h (sym (goes q) ∙ e));
   settled = λ q h e. a.settled q h (ap (λ c. held_node c q) (sym nodes) ∙ e);
   parents = (parents_stay (files s.keys)).evicts leads_to past n (seen s) (seen (with_pool p s)) a.parents b (no_child_of_block opened past s n a leave);
-  kept = λ w q e. sym (kept_alike n (seen s) (seen (with_pool p s)) b.rest b.pins w q) ∙ e;
-  marks = others_mark_nothing.evicts n (seen s) (seen (with_pool p s)) b;
+  evidence = λ w q e. a.evidence w q (kept_before n (seen s) (seen (with_pool p s)) b.rest b.pins w q e);
+  fewer = others_mark_nothing.evicts n (seen s) (seen (with_pool p s)) b;
 })

@@ -21,7 +21,7 @@ use Rattle.iris_pool.specs.Pool.{PoolState}
 use Rattle.iris_records.specs.Shown.{shown}
 use Rattle.iris_standing.specs.Standing.{Standing, AgreesWith, leads_to, seen, with_pool}
 use Rattle.iris_standing.specs.Transfers as l
-use Rattle.iris_standing.proofs.CarriedOver.{carried_alike, kept_alike}
+use Rattle.iris_standing.proofs.CarriedOver.{carried_alike, kept_before}
 use Rattle.iris_standing.proofs.SeenTransfers.{seen_as, out_is, cell_is, since_is, put_seen, get_seen, discard_seen}
 
 pub notes_stand : l.NotesStand
@@ -40,7 +40,7 @@ module _ (opened : ℕ) (past : Past) (s : Standing) (p : PoolState) (n : Name) 
     agrees = agrees;
     parents = (parents_stay (files s.keys)).ends leads_to past (record { note = note; opened = opened } ∷ past) n (seen s) (seen (with_pool p s)) h.parents rest
         (λ q. ap (λ t. shown s.keys.order t q) same) out (λ r. resident ∙ r);
-    evidence = (evidence_stays (files s.keys)).others past (record { note = note; opened = opened }) n (seen s) (seen (with_pool p s)) is (kept_alike n (seen s) (seen (with_pool p s)) rest pins) h.evidence;
+    evidence = (evidence_stays (files s.keys)).others past (record { note = note; opened = opened }) n (seen s) (seen (with_pool p s)) is (kept_before n (seen s) (seen (with_pool p s)) rest pins) h.evidence;
     fewer = fewer;
   })
 

@@ -13,7 +13,8 @@ use Rattle.iris_jobs.specs.Jobs.{JobState, get_task}
 use Rattle.iris_name.specs.declared.name.Name.{Name}
 use Rattle.iris_name.specs.declared.name.Name.TheVariants.{Entry, Part, Block}
 use Rattle.iris_name.specs.declared.note.Expect.{Expect}
-use Rattle.iris_pool.specs.View.{doing_by, out_seen}
+use Rattle.iris_pool.specs.Pool.{PoolState}
+use Rattle.iris_pool.specs.View.{doing_by, out_seen, pool_view}
 use Rattle.iris_pool.proofs.OutSeen.{asked_for, seen_out}
 use Rattle.iris_standing.specs.Standing.{Standing, seen}
 use Rattle.iris_standing.specs.Transfers.{IsOutAs, IsPutOut, IsGetOut}
@@ -23,17 +24,17 @@ abbrev pub seen_as : Standing → ℕ → pending.Out → Out
 seen_as s who o = asked_for s.keys.block (asked_by s.pool.desks who) (who, o)
 
 -- a cell has what is seen
-pub cell_out : (s : Standing) (n : Name) → ((seen s).cell n).out ≡ out_seen s.keys.block s.pool.desks n
-cell_out s (Entry i) = refl
-cell_out s (Part f l i) = refl
-cell_out s (Block f p) = refl
+pub cell_out : (key : List ℕ) (p : PoolState) (n : Name) → ((pool_view key p).cell n).out ≡ out_seen key p.desks n
+cell_out key p (Entry i) = refl
+cell_out key p (Part f l i) = refl
+cell_out key p (Block f q) = refl
 
 module _ (s : Standing) (who : ℕ) (task : Task) (o : pending.Out) (h : IsOutAs s.pool.desks who task o) where
   pub out_is : out_seen s.keys.block s.pool.desks task.name ≡ Some (seen_as s who o)
   out_is = seen_out s.keys.block s.pool.desks task.name who o h.out
 
   pub cell_is : ((seen s).cell task.name).out ≡ Some (seen_as s who o)
-  cell_is = cell_out s task.name ∙ out_is
+  cell_is = cell_out s.keys.block s.pool task.name ∙ out_is
 
   pub since_is : o.since ≡ task.since
   since_is = ap (λ (t : Task). t.since) h.task_is

@@ -4,3 +4,4 @@ pub mod Quiet
 pub mod Transfers
 pub mod ChoresBegin
 pub mod GetsKept
+pub mod Calls

@@ -3,6 +3,7 @@
 //! Each law is the contract of a function that does nothing.
 #![tactic(auto)]
 
+pub mod calls;
 pub mod links;
 pub mod quiet;
 pub mod transfers;
