@@ -1,5 +1,5 @@
 -- Puts of true records and discards of names that went begin.
-use Rattle.std.proofs.Common.{◌≡◌, ◌||◌, ℕ, List, Bool, true, false, Option, Some, None, IsNone, refl, sym, ◌∙◌, ap, subst, true≢false}
+use Rattle.std.proofs.Common.{◌≡◌, ◌||◌, ℕ, List, Bool, true, false, Some, IsNone, refl, sym, ◌∙◌, ap, subst, true≢false}
 use Rattle.iris_cache.specs.declared.held.Held.{Held}
 use Rattle.iris_cache.specs.Resident.{held_node}
 use Rattle.iris_desk.specs.AtDesks.{asked_by, is_doomed}
@@ -29,22 +29,22 @@ use Rattle.iris_node.specs.Unfolded.{Unfolded, Absent, Folder, Leaf, Even, Split
 use Rattle.iris_pool.specs.Changes.{HoldsAlike}
 use Rattle.iris_pool.specs.Pool.{PoolState}
 use Rattle.iris_records.specs.Records.{spelled}
-use Rattle.iris_standing.specs.Standing.{Standing, AgreesWith, leads_to, seen, with_pool}
+use Rattle.iris_standing.specs.Standing.{Standing, AgreesWith, leads_to, standing_view, with_pool}
 use Rattle.iris_standing.specs.ChoresBegin as l
 use Rattle.iris_standing.proofs.CachedNodes.{IsCachedAt, cached_at}
 use Rattle.iris_standing.proofs.CarriedOver.{carried_alike, kept_before, same_holds}
 use Rattle.std.specs.Prelude.{is_some}
 
 -- what begins, and is no get, leaves all else that agrees
-begun : (opened : ℕ) (past : Past) (s : Standing) (p : PoolState) (n : Name) (o : Out) → ((expect : Expect) → o.doing ≡ Getting expect → ⊥) → Began n o (seen s) (seen (with_pool p s)) → HoldsAlike s.pool p
-    → AgreesWith opened past s → Agrees (files s.keys) (file_rules s.keys) opened past (seen (with_pool p s)) → AgreesWith opened past (with_pool p s)
+begun : (opened : ℕ) (past : Past) (s : Standing) (p : PoolState) (n : Name) (o : Out) → ((expect : Expect) → o.doing ≡ Getting expect → ⊥) → Began n o (standing_view s) (standing_view (with_pool p s)) → HoldsAlike s.pool p
+    → AgreesWith opened past s → Agrees (files s.keys) (file_rules s.keys) opened past (standing_view (with_pool p s)) → AgreesWith opened past (with_pool p s)
 begun opened past s p n o no_get b alike h agrees = carried_alike opened past past s p h (record {
   table = refl;
   alike = alike;
   agrees = agrees;
-  parents = (parents_stay (files s.keys)).begins leads_to past n o (seen s) (seen (with_pool p s)) h.parents b (λ expect d q u live leads. absurd (no_get expect d));
-  evidence = λ who q kept. h.evidence who q (kept_before n (seen s) (seen (with_pool p s)) b.rest b.pins who q kept);
-  fewer = others_mark_nothing.begins n o (seen s) (seen (with_pool p s)) b;
+  parents = (parents_stay (files s.keys)).begins leads_to past n o (standing_view s) (standing_view (with_pool p s)) h.parents b (λ expect d q u live leads. absurd (no_get expect d));
+  evidence = λ who q kept. h.evidence who q (kept_before n (standing_view s) (standing_view (with_pool p s)) b.rest b.pins who q kept);
+  fewer = others_mark_nothing.begins n o (standing_view s) (standing_view (with_pool p s)) b;
 })
 
 no_put : (bytes : List ℕ) (expect : Expect) → Putting bytes ≡ Getting expect → ⊥
@@ -72,7 +72,7 @@ record_of_node key n (Even version) h = refl
 record_of_node key n (Split file level index low high) h = refl
 
 -- what the cell of a cached node shows
-node_cell : (s : Standing) (n : Name) (h : Held) → IsNodeName n → held_node s.pool.nodes n ≡ Some h → (((seen s).cell n).resident ≡ true) × (((seen s).cell n).dirty ≡ h.dirty) × (((seen s).cell n).settled ≡ h.settled)
+node_cell : (s : Standing) (n : Name) (h : Held) → IsNodeName n → held_node s.pool.nodes n ≡ Some h → (((standing_view s).cell n).resident ≡ true) × (((standing_view s).cell n).dirty ≡ h.dirty) × (((standing_view s).cell n).settled ≡ h.settled)
 node_cell s (Entry i) h is at = (ap (λ o. is_some o) at, ap dirty_in at, ap settled_in at)
 node_cell s (Part f l i) h is at = (ap (λ o. is_some o) at, ap dirty_in at, ap settled_in at)
 node_cell s (Block f p) h is at = absurd is
@@ -91,8 +91,8 @@ node_puts_begin opened past s p who since n h crowded timely at dirty begins ali
     let carried : Carries (files keys) n (shown_in (files keys) past n) bytes =
     subst (λ o. Carries (files keys) n o bytes) (sym c.live) (sym (record_of_node keys.block n c.u c.is_node ∙ ap spelled_node true_node)) in
     begun opened past s p n (begun_out who since (asked_by s.pool.desks who) (Putting bytes) crowded) (no_put bytes) (begins keys.block) alike w
-    (puts_begin (files keys) (file_rules keys) opened past (seen s) (seen (with_pool p s)) who since n (asked_by s.pool.desks who) bytes crowded timely.last
-    (record { live = ap (λ o. is_some o) c.live; marked_ = marked_so ((seen s).cell n) (cell.1 ∙ dirty); settled = cell.2 ∙ w.settled n h at; carried = carried })
+    (puts_begin (files keys) (file_rules keys) opened past (standing_view s) (standing_view (with_pool p s)) who since n (asked_by s.pool.desks who) bytes crowded timely.last
+    (record { live = ap (λ o. is_some o) c.live; marked_ = marked_so ((standing_view s).cell n) (cell.1 ∙ dirty); settled = cell.2 ∙ w.settled n h at; carried = carried })
     timely.waits (begins keys.block) w.agrees)
 
 -- ---- blocks
@@ -104,10 +104,10 @@ page_puts_begin opened past s p who since file place h crowded timely at dirty b
     let bytes : List ℕ = record_bytes keys.block n (written.Page h.version h.page) in
     let live = w.shows.shows n h at in
     begun opened past s p n (begun_out who since (asked_by s.pool.desks who) (Putting bytes) crowded) (no_put bytes) (begins keys.block) alike w
-    (puts_begin (files keys) (file_rules keys) opened past (seen s) (seen (with_pool p s)) who since n (asked_by s.pool.desks who) bytes crowded timely.last
+    (puts_begin (files keys) (file_rules keys) opened past (standing_view s) (standing_view (with_pool p s)) who since n (asked_by s.pool.desks who) bytes crowded timely.last
     (record {
       live = ap (λ o. is_some o) live;
-      marked_ = marked_so ((seen s).cell n) (ap dirty_page_in at ∙ dirty);
+      marked_ = marked_so ((standing_view s).cell n) (ap dirty_page_in at ∙ dirty);
       settled = ap (λ o. is_some o) at;
       carried = subst (λ o. Carries (files keys) n o bytes) (sym live) refl;
     })
@@ -123,7 +123,7 @@ gone_by keys past n resident m (a.Clean off c) absent e = absurd (true≢false (
 gone_by keys past n resident m (a.Doomed off on d) absent e = d.gone
 gone_by keys past n resident m (a.Gone off on g nd) absent e = g
 
-doomed_cell : (s : Standing) (n : Name) → ((seen s).cell n).doomed ≡ is_doomed s.pool.desks n
+doomed_cell : (s : Standing) (n : Name) → ((standing_view s).cell n).doomed ≡ is_doomed s.pool.desks n
 doomed_cell s (Entry i) = refl
 doomed_cell s (Part f l i) = refl
 doomed_cell s (Block f p) = refl
@@ -132,12 +132,12 @@ doomed_so : (dirty doomed : Bool) → doomed ≡ true → (dirty || doomed) ≡ 
 doomed_so true doomed e = refl
 doomed_so false doomed e = e
 
-pub discards_begin_so : l.DiscardsBegin
+pub discards_begin_so : l.DoomedDiscardsBegin
 discards_begin_so opened past s p who since n crowded timely doomed begins nodes pages w =
     let keys = s.keys in
     let is = doomed_cell s n ∙ doomed in
-    let m = doomed_so ((seen s).cell n).dirty ((seen s).cell n).doomed is in
+    let m = doomed_so ((standing_view s).cell n).dirty ((standing_view s).cell n).doomed is in
     begun opened past s p n (begun_out who since (asked_by s.pool.desks who) Dropping crowded) no_discard (begins keys.block) (same_holds s.pool p nodes pages) w
-    (discards_begin (files keys) (file_rules keys) opened past (seen s) (seen (with_pool p s)) who since n (asked_by s.pool.desks who) crowded timely.last
-    (record { gone = gone_by keys past n ((seen s).cell n).resident (marked ((seen s).cell n)) (w.agrees.marks n) ((w.agrees.listed n).doomed is) m; marked_ = m })
+    (discards_begin (files keys) (file_rules keys) opened past (standing_view s) (standing_view (with_pool p s)) who since n (asked_by s.pool.desks who) crowded timely.last
+    (record { gone = gone_by keys past n ((standing_view s).cell n).resident (marked ((standing_view s).cell n)) (w.agrees.marks n) ((w.agrees.listed n).doomed is) m; marked_ = m })
     timely.waits (begins keys.block) w.agrees)

@@ -1,5 +1,5 @@
 -- A get begins of what a request needs: it may, and the parent of its name is cached.
-use Rattle.std.proofs.Common.{◌≡◌, ◌⊎◌, inl, inr, ℕ, zero, suc, List, Bool, true, false, Option, Some, None, IsSome, is_some, refl, ap, sym, ◌∙◌, subst, arith}
+use Rattle.std.proofs.Common.{◌≡◌, ◌⊎◌, inl, inr, ℕ, zero, suc, List, Bool, true, false, Option, Some, IsSome, is_some, refl, ap, sym, subst, arith}
 use Rattle.iris_blocks.specs.declared.held.PageHeld.{PageHeld}
 use Rattle.iris_cache.specs.declared.held.Held.{Held}
 use Rattle.iris_cache.specs.Pictures.{IsHashOf}
@@ -31,7 +31,7 @@ use Rattle.iris_pool.specs.Pool.{PoolState}
 use Rattle.iris_pool.specs.View.{pool_view}
 use Rattle.iris_requests.specs.Needed.{IsAbsent, IsNeeded}
 use Rattle.iris_table_laws.proofs.NodeParents.{roots_have_none}
-use Rattle.iris_standing.specs.Standing.{Standing, with_pool, seen, leads_to, AgreesWith}
+use Rattle.iris_standing.specs.Standing.{Standing, with_pool, standing_view, leads_to, AgreesWith}
 use Rattle.iris_standing.specs.Quiet.{expected_at, expected_of, GetsGoOn}
 use Rattle.iris_standing.proofs.CarriedOver.{carried_alike, kept_before, lists_alike, trash_is, visible_is}
 use Rattle.iris_standing.proofs.LinkedNames.{leading_name, leading_parent}
@@ -89,11 +89,11 @@ module _ (opened : ℕ) (past : Past) (s : Standing) (a : AgreesWith opened past
   expected (Block f p) x live (inr is) = is
 
   -- a get of what is needed may begin
-  may_get : (who : ℕ) (request : Request) (n : Name) (x : Expect) → (seen s).asked who ≡ Some request → IsNeeded s.keys (files_after s.keys past) request s.pool.nodes s.pool.pages n x
-      → MayGet (files s.keys) (file_rules s.keys) past (seen s) who n request (expected_of s n x)
+  may_get : (who : ℕ) (request : Request) (n : Name) (x : Expect) → (standing_view s).asked who ≡ Some request → IsNeeded s.keys (files_after s.keys past) request s.pool.nodes s.pool.pages n x
+      → MayGet (files s.keys) (file_rules s.keys) past (standing_view s) who n request (expected_of s n x)
   may_get who request n x asked need = let absent = absent_cell s.keys.block s.pool n need.absent in record {
     live = need.live;
-    unmarked = unmarked (files s.keys) (file_rules s.keys) opened past (seen s) n a.agrees need.live absent;
+    unmarked = unmarked (files s.keys) (file_rules s.keys) opened past (standing_view s) n a.agrees need.live absent;
     absent = λ ch. absent;
     expected = expected n x need.live need.expected;
     asked = asked;
@@ -102,7 +102,7 @@ module _ (opened : ℕ) (past : Past) (s : Standing) (a : AgreesWith opened past
 
   -- each parent of what is needed is cached
   parent_cached : (request : Request) (n : Name) (x : Expect) → IsNeeded s.keys (files_after s.keys past) request s.pool.nodes s.pool.pages n x
-      → (p : Name) (u : Unfolded) → shown_after s.keys past p ≡ Some u → leads_to u n ≡ true → ((seen s).cell p).resident ≡ true
+      → (p : Name) (u : Unfolded) → shown_after s.keys past p ≡ Some u → leads_to u n ≡ true → ((standing_view s).cell p).resident ≡ true
   parent_cached request n x need p u live l =
       let above : IsParent (shown_after s.keys past) p n = leading_parent (shown_after s.keys past) p n u live l in
       elim need.parent [
@@ -114,8 +114,8 @@ pub gets_go_on : GetsGoOn
 gets_go_on opened past s p who since request n x at asked need b nodes pages a = carried_alike opened past past s p a (record {
   table = refl;
   alike = lists_alike s.pool p nodes pages;
-  agrees = gets_begin (files s.keys) (file_rules s.keys) opened past (seen s) (seen (with_pool p s)) who since n request (expected_of s n x) at (may_get opened past s a who request n x asked need) b a.agrees;
-  parents = (parents_stay (files s.keys)).begins leads_to past n (begun_out who since (Some request) (Getting (expected_of s n x)) false) (seen s) (seen (with_pool p s)) a.parents b (λ y e. parent_cached opened past s a request n x need);
-  evidence = λ w q e. a.evidence w q (kept_before n (seen s) (seen (with_pool p s)) b.rest b.pins w q e);
-  fewer = others_mark_nothing.begins n (begun_out who since (Some request) (Getting (expected_of s n x)) false) (seen s) (seen (with_pool p s)) b;
+  agrees = gets_begin (files s.keys) (file_rules s.keys) opened past (standing_view s) (standing_view (with_pool p s)) who since n request (expected_of s n x) at (may_get opened past s a who request n x asked need) b a.agrees;
+  parents = (parents_stay (files s.keys)).begins leads_to past n (begun_out who since (Some request) (Getting (expected_of s n x)) false) (standing_view s) (standing_view (with_pool p s)) a.parents b (λ y e. parent_cached opened past s a request n x need);
+  evidence = λ w q e. a.evidence w q (kept_before n (standing_view s) (standing_view (with_pool p s)) b.rest b.pins w q e);
+  fewer = others_mark_nothing.begins n (begun_out who since (Some request) (Getting (expected_of s n x)) false) (standing_view s) (standing_view (with_pool p s)) b;
 })

@@ -2,7 +2,6 @@
 use Rattle.std.proofs.Common.{◌≡◌, ◌≢◌, ◌+◌, ◌<◌, ◌≤◌, ◌⊎◌, ◌||◌, inl, inr, ℕ, zero, suc, Bool, true, false, cond, List, [], ◌∷◌, length, Option, Some, None, refl, ap, sym, ◌∙◌, subst, arith, true≢false}
 use Rattle.std.specs.Prelude.{◌==◌, is_none}
 use Rattle.std.specs.List.{list_any}
-use Rattle.std.proofs.lemmas.Bool.{eqb-true, ne_eqb}
 use Rattle.iris_history.specs.Kept.{is_block, takes_step}
 use Rattle.iris_invariant.proofs.Bounds.{lists_count}
 use Rattle.iris_invariant.proofs.Events.{or_left, or_right, which, which_caller}
@@ -29,8 +28,8 @@ use Rattle.iris_plan_laws.proofs.BlocksOfSteps.{resizes_change_blocks, writes_ch
 use Rattle.iris_plan_laws.specs.Begun.{IsAtFile}
 use Rattle.iris_plan_laws.specs.Blocks.{AreAmong, ChangesBlocks, IsOfRows}
 use Rattle.iris_records.specs.Shown.{shown}
-use Rattle.iris_requests.proofs.BytesWritten.{PassesWrite, writes_file}
-use Rattle.iris_requests.proofs.LengthsChanged.{PassesResize, resizes_file}
+use Rattle.iris_requests.proofs.BytesWritten.{writes_file}
+use Rattle.iris_requests.proofs.LengthsChanged.{resizes_file}
 use Rattle.iris_requests.specs.Planned.{after_reply}
 use Rattle.iris_requests.specs.Served.{IsPlannable}
 use Rattle.iris_rows.specs.Changes.{accepted_change, filed, seen_file, seen_in, seen_row, stepped, table_verdict}

@@ -1,5 +1,5 @@
 -- A node that a get brings is the table's with its true hashes, and goes below the parent that the cache names.
-use Rattle.std.proofs.Common.{◌≡◌, inl, inr, ◌&&◌, ℕ, ◌∷◌, List, [], Bool, true, false, cond, Option, Some, None, refl, sym, ◌∙◌, ap, subst, true≢false}
+use Rattle.std.proofs.Common.{◌≡◌, ◌&&◌, ℕ, ◌∷◌, List, [], Bool, true, false, cond, Option, Some, None, refl, sym, ◌∙◌, ap, subst, true≢false}
 use Rattle.std.specs.Map.{lookup}
 use Rattle.std.specs.Prelude.{IsSomeAnd, is_some}
 use Rattle.iris_cache.specs.declared.held.Held.{Held}
@@ -46,7 +46,7 @@ use Rattle.iris_pool.specs.View.{out_seen, pool_view}
 use Rattle.iris_pool.proofs.OutSeen.{asked_for, seen_out}
 use Rattle.iris_standing.specs.GetsKept as l
 use Rattle.iris_standing.specs.GetsKept.{IsParentNamed, NodeKept}
-use Rattle.iris_standing.specs.Standing.{Standing, AgreesWith, StandsFor, seen, with_pool}
+use Rattle.iris_standing.specs.Standing.{Standing, AgreesWith, StandsFor, standing_view, with_pool}
 use Rattle.iris_standing.specs.Transfers.{IsGetOut}
 use Rattle.iris_standing.proofs.LinkedNames.{above_leads}
 use Rattle.iris_standing.proofs.RightAnswers.{IsTold, ShowsTable, gets_now, kept_right, record_passed}
@@ -67,7 +67,7 @@ none_is : (o : Option Held) → is_some o ≡ false → o ≡ None
 none_is None e = refl
 none_is (Some h) e = absurd (true≢false e)
 
-absent_node : (s : Standing) (n : Name) → IsNodeName n → ((seen s).cell n).resident ≡ false → held_node s.pool.nodes n ≡ None
+absent_node : (s : Standing) (n : Name) → IsNodeName n → ((standing_view s).cell n).resident ≡ false → held_node s.pool.nodes n ≡ None
 absent_node s (Entry i) is e = none_is _ e
 absent_node s (Part f l i) is e = none_is _ e
 absent_node s (Block f p) is e = absurd is
@@ -77,7 +77,7 @@ absent_in p (Entry i) is e = e
 absent_in p (Part f l i) is e = e
 absent_in p (Block f q) is e = absurd is
 
-present_node : (s : Standing) (n : Name) → IsNodeName n → ((seen s).cell n).resident ≡ true → (h : Held) × (held_node s.pool.nodes n ≡ Some h)
+present_node : (s : Standing) (n : Name) → IsNodeName n → ((standing_view s).cell n).resident ≡ true → (h : Held) × (held_node s.pool.nodes n ≡ Some h)
 present_node s (Entry i) is e = by (held_node s.pool.nodes (Entry i)) refl e where
   by : (o : Option Held) → held_node s.pool.nodes (Entry i) ≡ o → is_some (held_node s.pool.nodes (Entry i)) ≡ true → (h : Held) × (held_node s.pool.nodes (Entry i) ≡ Some h)
   by None at r = absurd (true≢false (sym r ∙ ap (λ o. is_some o) at))
@@ -105,7 +105,7 @@ come_settled true false new None e f g at = absurd (cc)
 come_settled true false new (Some h) e f g at = let z : kid_more h ≡ g = cc in ap (λ (x : Held). x.settled) (sym z) ∙ f h refl
 come_settled false false new o e f g at = f g at
 
-module _ (opened : ℕ) (past : Past) (s : Standing) (h : AgreesWith opened past s) (n : Name) (o : Out) (x : Expect) (out : ((seen s).cell n).out ≡ Some o) (d : o.doing ≡ Getting x) where
+module _ (opened : ℕ) (past : Past) (s : Standing) (h : AgreesWith opened past s) (n : Name) (o : Out) (x : Expect) (out : ((standing_view s).cell n).out ≡ Some o) (d : o.doing ≡ Getting x) where
   abbrev t : Shown
   t = shown_after s.keys past
 
@@ -177,7 +177,7 @@ module _ (opened : ℕ) (past : Past) (s : Standing) (p : PoolState) (job : JobS
         settled = λ m g z. come_settled (points parent m) (same_name job.name m) (newcomer_node parent node job.who c.0) (held_node s.pool.nodes m) refl (h.settled m) g (sym (c.1 m) ∙ z);
       }
 
-  brought_so : Brought job.name out_as (seen s) (seen (with_pool p s))
+  brought_so : Brought job.name out_as (standing_view s) (standing_view (with_pool p s))
   brought_so = subst (λ m. (key : List ℕ) (z : Out) → out_seen key s.pool.desks m ≡ Some z → Brought m z (pool_view key s.pool) (pool_view key p)) r.own kept.brought s.keys.block out_as (out_is s job.who (get_task job) o is.out)
 
   pub node_kept : IsRecordFor (block_key job.master) job.name job.expect bytes → StandsFor opened past s → StandsFor opened (record { note = got_note job (Given bytes); opened = opened } ∷ past) (with_pool p s)

@@ -37,7 +37,7 @@ use Rattle.iris_pool.proofs.OutSeen.{asked_for, seen_out}
 use Rattle.iris_records.specs.Records.{spelled}
 use Rattle.iris_standing.specs.GetsKept as l
 use Rattle.iris_standing.specs.GetsKept.{PageKept}
-use Rattle.iris_standing.specs.Standing.{Standing, AgreesWith, StandsFor, seen, with_pool}
+use Rattle.iris_standing.specs.Standing.{Standing, AgreesWith, StandsFor, standing_view, with_pool}
 use Rattle.iris_standing.specs.Transfers.{IsGetOut}
 use Rattle.iris_standing.proofs.CarriedOver.{same_nodes, settled_alike, shows_alike}
 use Rattle.iris_standing.proofs.RightAnswers.{IsTold, ShowsTable, kept_right, record_passed}
@@ -126,7 +126,7 @@ module _ (opened : ℕ) (past : Past) (s : Standing) (p : PoolState) (job : JobS
     by None absent true touched = stays (λ _. touched) h
     by (Some g) at t e = stays (λ absent. absurd (let z : None ≡ Some g = sym absent ∙ at in cc)) h
 
-  brought_so : Brought n out_as (seen s) (seen (with_pool p s))
+  brought_so : Brought n out_as (standing_view s) (standing_view (with_pool p s))
   brought_so = kept.brought s.keys.block out_as (subst (λ m. out_seen s.keys.block s.pool.desks m ≡ Some out_as) own (out_is s job.who (get_task job) o is.out))
 
   pub page_kept : IsRecordFor (block_key job.master) job.name job.expect bytes → StandsFor opened past s → StandsFor opened (record { note = got_note job (Given bytes); opened = opened } ∷ past) (with_pool p s)
@@ -134,7 +134,7 @@ module _ (opened : ℕ) (past : Past) (s : Standing) (p : PoolState) (job : JobS
       let pass = record_passed s.keys n job.expect bytes (subst (λ m. IsRecordFor s.keys.block m job.expect bytes) own (subst (λ key. IsRecordFor key job.name job.expect bytes) is.key passes)) in
       subst (λ m. StandsFor opened (got opened job.who job.since m (Given bytes) ∷ past) (with_pool p s)) (sym own)
       (subst (λ since. StandsFor opened (got opened job.who since n (Given bytes) ∷ past) (with_pool p s)) (since_is s job.who (get_task job) o is.out)
-      (kept_right opened past s p n out_as job.expect bytes (subst (λ m. ((seen s).cell m).out ≡ Some out_as) own (cell_is s job.who (get_task job) o is.out)) (get_seen s job o is) shown_then pass brought_so stands))
+      (kept_right opened past s p n out_as job.expect bytes (subst (λ m. ((standing_view s).cell m).out ≡ Some out_as) own (cell_is s job.who (get_task job) o is.out)) (get_seen s job o is) shown_then pass brought_so stands))
 
 no_page : (version : ℕ) (page : List ℕ) → brought.Page version page ≡ brought.Nothing → ⊥
 no_page version page e = cc

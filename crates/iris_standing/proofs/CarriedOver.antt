@@ -29,7 +29,7 @@ use Rattle.iris_pool.specs.Changes.{ArePagesAlike, HoldsAlike}
 use Rattle.iris_pool.specs.Pool.{PoolState}
 use Rattle.iris_records.specs.Shown.{shown}
 use Rattle.iris_requests.specs.Planned.{IsShownBy}
-use Rattle.iris_standing.specs.Standing.{Standing, AgreesWith, leads_to, seen, with_pool}
+use Rattle.iris_standing.specs.Standing.{Standing, AgreesWith, leads_to, standing_view, with_pool}
 
 -- every cached node is settled
 abbrev pub AreSettled : Resident → Type 0
@@ -128,10 +128,10 @@ pub record CarriesOver (opened : ℕ) (past past' : Past) (s : Standing) (p : Po
   pub pictures : Pictures (shown_after s.keys past) p.nodes
   pub shows : Shows (shown_after s.keys past) p.pages
   pub settled : AreSettled p.nodes
-  pub agrees : Agrees (files s.keys) (file_rules s.keys) opened past' (seen (with_pool p s))
-  pub parents : ParentsResident (files s.keys) (leads leads_to) past' (seen (with_pool p s))
-  pub evidence : Evidence (files s.keys) past' (seen (with_pool p s))
-  pub fewer : MarksNoMore (seen s) (seen (with_pool p s))
+  pub agrees : Agrees (files s.keys) (file_rules s.keys) opened past' (standing_view (with_pool p s))
+  pub parents : ParentsResident (files s.keys) (leads leads_to) past' (standing_view (with_pool p s))
+  pub evidence : Evidence (files s.keys) past' (standing_view (with_pool p s))
+  pub fewer : MarksNoMore (standing_view s) (standing_view (with_pool p s))
 
 pub carried_over : (opened : ℕ) (past past' : Past) (s : Standing) (p : PoolState) → AgreesWith opened past s → CarriesOver opened past past' s p → AgreesWith opened past' (with_pool p s)
 carried_over opened past past' s p h c = record {
@@ -142,17 +142,17 @@ carried_over opened past past' s p h c = record {
   settled = c.settled;
   parents = c.parents;
   evidence = c.evidence;
-  bound = still_at_most 512 (seen s) (seen (with_pool p s)) c.fewer h.bound;
+  bound = still_at_most 512 (standing_view s) (standing_view (with_pool p s)) c.fewer h.bound;
 }
 
 -- A pool that holds the same, and of which the invariant's parts hold.
 pub record CarriesAlike (opened : ℕ) (past past' : Past) (s : Standing) (p : PoolState) : Type 0 where
   pub table : files_after s.keys past' ≡ files_after s.keys past
   pub alike : HoldsAlike s.pool p
-  pub agrees : Agrees (files s.keys) (file_rules s.keys) opened past' (seen (with_pool p s))
-  pub parents : ParentsResident (files s.keys) (leads leads_to) past' (seen (with_pool p s))
-  pub evidence : Evidence (files s.keys) past' (seen (with_pool p s))
-  pub fewer : MarksNoMore (seen s) (seen (with_pool p s))
+  pub agrees : Agrees (files s.keys) (file_rules s.keys) opened past' (standing_view (with_pool p s))
+  pub parents : ParentsResident (files s.keys) (leads leads_to) past' (standing_view (with_pool p s))
+  pub evidence : Evidence (files s.keys) past' (standing_view (with_pool p s))
+  pub fewer : MarksNoMore (standing_view s) (standing_view (with_pool p s))
 
 pub carried_alike : (opened : ℕ) (past past' : Past) (s : Standing) (p : PoolState) → AgreesWith opened past s → CarriesAlike opened past past' s p → AgreesWith opened past' (with_pool p s)
 carried_alike opened past past' s p h c = carried_over opened past past' s p h (record {

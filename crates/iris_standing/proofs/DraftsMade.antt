@@ -1,6 +1,6 @@
 -- What a plan's drafts make of a pool that shows the table, and is agreed with: it shows the table after, each name moves as a call
 -- moves it, and the hash that is kept of a settled node is true.
-use Rattle.std.proofs.Common.{◌≡◌, ◌⊎◌, inl, inr, ◌∷◌, ℕ, Bool, true, false, List, Option, Some, None, refl, ap, sym, ◌∙◌, subst, true≢false, is_some}
+use Rattle.std.proofs.Common.{◌≡◌, ◌⊎◌, inl, inr, ◌∷◌, Bool, true, false, Option, Some, None, refl, ap, sym, ◌∙◌, subst, true≢false, is_some}
 use Rattle.std.specs.Prelude.{IsSome}
 use Rattle.iris_blocks.specs.Changes.{PageDrafted}
 use Rattle.iris_blocks.specs.declared.held.PageHeld.{PageHeld}
@@ -22,7 +22,7 @@ use Rattle.iris_file_rules.specs.Rules.{shown_after}
 use Rattle.iris_file_rules.specs.TableLaws.{IsWellFormed}
 use Rattle.iris_invariant.specs.Agrees.{Cell, MarkListed}
 use Rattle.iris_invariant.specs.Cells.{Tied, TiedPage}
-use Rattle.iris_invariant.specs.Events.{Changed, IsKeptDirty, Moved, Still}
+use Rattle.iris_invariant.specs.Events.{Changed, Moved, Still}
 use Rattle.iris_mac.specs.declared.keys.Keys.{Keys}
 use Rattle.iris_name.specs.declared.name.Hash32.{Hash32}
 use Rattle.iris_name.specs.declared.name.Name.{Name}

@@ -34,7 +34,7 @@ use Rattle.iris_pool.specs.Going.{CanLeave, IsFetched, PageCanLeave}
 use Rattle.iris_pool.specs.Pool.{PoolState}
 use Rattle.iris_pool.specs.View.{doing_by, pool_view}
 use Rattle.iris_pool.proofs.OutSeen.{seen_is}
-use Rattle.iris_standing.specs.Standing.{Standing, with_pool, seen, leads_to, AgreesWith}
+use Rattle.iris_standing.specs.Standing.{Standing, with_pool, standing_view, leads_to, AgreesWith}
 use Rattle.iris_standing.specs.Quiet.{NodesLeave, PagesLeave}
 use Rattle.iris_standing.proofs.CarriedOver.{carried_over, kept_before}
 use Rattle.iris_standing.proofs.LinkedNames.{leading_parent}
@@ -70,7 +70,7 @@ was_held true o h e = absurd (cc)
 was_held false o h e = e
 
 -- no child of a node that can leave is being fetched
-no_child : (opened : ℕ) (past : Past) (s : Standing) (n : Name) → AgreesWith opened past s → CanLeave s.pool n → NoChildIsFetched (files s.keys) (leads leads_to) past (seen s) n
+no_child : (opened : ℕ) (past : Past) (s : Standing) (n : Name) → AgreesWith opened past s → CanLeave s.pool n → NoChildIsFetched (files s.keys) (leads leads_to) past (standing_view s) n
 no_child opened past s n a leave m o x u out doing live l =
     let t = shown_after s.keys past in
     let there = that_is (λ (h : Held). stay_of h ≡ None) (held_node s.pool.nodes n) leave.0 in
@@ -80,13 +80,13 @@ no_child opened past s n a leave m o x u out doing live l =
 pub nodes_leave : NodesLeave
 nodes_leave opened past s p n sound leave goes b pages a = carried_over opened past past s p a (record {
   table = refl;
-  agrees = evictions_keep (files s.keys) (file_rules s.keys) opened past (seen s) (seen (with_pool p s)) n b a.agrees;
+  agrees = evictions_keep (files s.keys) (file_rules s.keys) opened past (standing_view s) (standing_view (with_pool p s)) n b a.agrees;
   pictures = evict-keeps (shown_after s.keys past) s.pool.nodes p.nodes n there.0 a.shows.pictures sound there.1 there.2 (a.settled n there.0 there.1) goes;
   shows = subst (λ c. Shows (shown_after s.keys past) c) (sym pages) a.shows.shows;
   settled = settled;
-  parents = (parents_stay (files s.keys)).evicts leads_to past n (seen s) (seen (with_pool p s)) a.parents b (no_child opened past s n a leave);
-  evidence = λ w q e. a.evidence w q (kept_before n (seen s) (seen (with_pool p s)) b.rest b.pins w q e);
-  fewer = others_mark_nothing.evicts n (seen s) (seen (with_pool p s)) b;
+  parents = (parents_stay (files s.keys)).evicts leads_to past n (standing_view s) (standing_view (with_pool p s)) a.parents b (no_child opened past s n a leave);
+  evidence = λ w q e. a.evidence w q (kept_before n (standing_view s) (standing_view (with_pool p s)) b.rest b.pins w q e);
+  fewer = others_mark_nothing.evicts n (standing_view s) (standing_view (with_pool p s)) b;
 }) where
   there : (h : Held) × (held_node s.pool.nodes n ≡ Some h) × (stay_of h ≡ None)
   there = that_is (λ (h : Held). stay_of h ≡ None) (held_node s.pool.nodes n) leave.0
@@ -97,7 +97,7 @@ nodes_leave opened past s p n sound leave goes b pages a = carried_over opened p
       was.2 ∙ a.settled q was.0 (was_held (same_name n q) (held_node s.pool.nodes q) was.0 was.1)
 
 -- a block has no children
-no_child_of_block : (opened : ℕ) (past : Past) (s : Standing) (n : Name) → AgreesWith opened past s → PageCanLeave s.pool n → NoChildIsFetched (files s.keys) (leads leads_to) past (seen s) n
+no_child_of_block : (opened : ℕ) (past : Past) (s : Standing) (n : Name) → AgreesWith opened past s → PageCanLeave s.pool n → NoChildIsFetched (files s.keys) (leads leads_to) past (standing_view s) n
 no_child_of_block opened past s n a leave m o x u out doing live l =
     let there = that_is (λ (h : PageHeld). page_stay_of h ≡ None) (held_page s.pool.pages n) leave.0 in
     let same : Some (Stored there.0.version there.0.page) ≡ Some u = sym (a.shows.shows n there.0 there.1) ∙ live in
@@ -107,11 +107,11 @@ no_child_of_block opened past s n a leave m o x u out doing live l =
 pub pages_leave : PagesLeave
 pages_leave opened past s p n leave goes b nodes a = carried_over opened past past s p a (record {
   table = refl;
-  agrees = evictions_keep (files s.keys) (file_rules s.keys) opened past (seen s) (seen (with_pool p s)) n b a.agrees;
+  agrees = evictions_keep (files s.keys) (file_rules s.keys) opened past (standing_view s) (standing_view (with_pool p s)) n b a.agrees;
   pictures = subst (λ c. Pictures (shown_after s.keys past) c) (sym nodes) a.shows.pictures;
   shows = λ q h e. a.shows.shows q h (was_held (same_name n q) (held_page s.pool.pages q) h (sym (goes q) ∙ e));
   settled = λ q h e. a.settled q h (ap (λ c. held_node c q) (sym nodes) ∙ e);
-  parents = (parents_stay (files s.keys)).evicts leads_to past n (seen s) (seen (with_pool p s)) a.parents b (no_child_of_block opened past s n a leave);
-  evidence = λ w q e. a.evidence w q (kept_before n (seen s) (seen (with_pool p s)) b.rest b.pins w q e);
-  fewer = others_mark_nothing.evicts n (seen s) (seen (with_pool p s)) b;
+  parents = (parents_stay (files s.keys)).evicts leads_to past n (standing_view s) (standing_view (with_pool p s)) a.parents b (no_child_of_block opened past s n a leave);
+  evidence = λ w q e. a.evidence w q (kept_before n (standing_view s) (standing_view (with_pool p s)) b.rest b.pins w q e);
+  fewer = others_mark_nothing.evicts n (standing_view s) (standing_view (with_pool p s)) b;
 })

@@ -30,3 +30,4 @@ pub mod IdleCalls
 mod ExamplesOfLinks
 mod ExamplesOfExpectations
 mod ExamplesOfTransfers
+mod ExamplesOfCalls

@@ -19,7 +19,7 @@ use Rattle.iris_name.specs.NameLaws.{same_name-refl}
 use Rattle.iris_pool.specs.Changes.{HoldsAlike}
 use Rattle.iris_pool.specs.Pool.{PoolState}
 use Rattle.iris_records.specs.Shown.{shown}
-use Rattle.iris_standing.specs.Standing.{Standing, AgreesWith, leads_to, seen, with_pool}
+use Rattle.iris_standing.specs.Standing.{Standing, AgreesWith, leads_to, standing_view, with_pool}
 use Rattle.iris_standing.specs.Transfers as l
 use Rattle.iris_standing.proofs.CarriedOver.{carried_alike, kept_before}
 use Rattle.iris_standing.proofs.SeenTransfers.{seen_as, out_is, cell_is, since_is, put_seen, get_seen, discard_seen}
@@ -30,24 +30,24 @@ notes_stand opened past note s p go (inr h) = let g = go h.1 in inr ((g.0, h.0),
 
 module _ (opened : ℕ) (past : Past) (s : Standing) (p : PoolState) (n : Name) (note : Note) (is : is_transfer_of n note ≡ true) (same : files_after s.keys (record { note = note; opened = opened } ∷ past) ≡ files_after s.keys past) where
   -- a transfer that is noted, and leaves the table and all that is held
-  noted : HoldsAlike s.pool p → Elsewhere n (seen s) (seen (with_pool p s)) → SamePins n (seen s) (seen (with_pool p s)) → ((seen (with_pool p s)).cell n).out ≡ None
-      → ((seen (with_pool p s)).cell n).resident ≡ ((seen s).cell n).resident → MarksNoMore (seen s) (seen (with_pool p s))
-      → AgreesWith opened past s → Agrees (files s.keys) (file_rules s.keys) opened (record { note = note; opened = opened } ∷ past) (seen (with_pool p s))
+  noted : HoldsAlike s.pool p → Elsewhere n (standing_view s) (standing_view (with_pool p s)) → SamePins n (standing_view s) (standing_view (with_pool p s)) → ((standing_view (with_pool p s)).cell n).out ≡ None
+      → ((standing_view (with_pool p s)).cell n).resident ≡ ((standing_view s).cell n).resident → MarksNoMore (standing_view s) (standing_view (with_pool p s))
+      → AgreesWith opened past s → Agrees (files s.keys) (file_rules s.keys) opened (record { note = note; opened = opened } ∷ past) (standing_view (with_pool p s))
       → AgreesWith opened (record { note = note; opened = opened } ∷ past) (with_pool p s)
   noted alike rest pins out resident fewer h agrees = carried_alike opened past (record { note = note; opened = opened } ∷ past) s p h (record {
     table = same;
     alike = alike;
     agrees = agrees;
-    parents = (parents_stay (files s.keys)).ends leads_to past (record { note = note; opened = opened } ∷ past) n (seen s) (seen (with_pool p s)) h.parents rest
+    parents = (parents_stay (files s.keys)).ends leads_to past (record { note = note; opened = opened } ∷ past) n (standing_view s) (standing_view (with_pool p s)) h.parents rest
         (λ q. ap (λ t. shown s.keys.order t q) same) out (λ r. resident ∙ r);
-    evidence = (evidence_stays (files s.keys)).others past (record { note = note; opened = opened }) n (seen s) (seen (with_pool p s)) is (kept_before n (seen s) (seen (with_pool p s)) rest pins) h.evidence;
+    evidence = (evidence_stays (files s.keys)).others past (record { note = note; opened = opened }) n (standing_view s) (standing_view (with_pool p s)) is (kept_before n (standing_view s) (standing_view (with_pool p s)) rest pins) h.evidence;
     fewer = fewer;
   })
 
 -- the settled put of an untouched name, as a pool asks it
-settled_put : (opened : ℕ) (past : Past) (s : Standing) (n : Name) (o : Out) (bytes : List ℕ) → AgreesWith opened past s → ((seen s).cell n).out ≡ Some o → o.doing ≡ Putting bytes
-    → o.touched ≡ false → ((seen s).cell n).settled ≡ true
-settled_put opened past s n o bytes h out d = (subst (StaysRight (files s.keys) n past (is_challenge o.request n) ((seen s).cell n) o.touched) d (h.agrees.outs n o out).now).1
+settled_put : (opened : ℕ) (past : Past) (s : Standing) (n : Name) (o : Out) (bytes : List ℕ) → AgreesWith opened past s → ((standing_view s).cell n).out ≡ Some o → o.doing ≡ Putting bytes
+    → o.touched ≡ false → ((standing_view s).cell n).settled ≡ true
+settled_put opened past s n o bytes h out d = (subst (StaysRight (files s.keys) n past (is_challenge o.request n) ((standing_view s).cell n) o.touched) d (h.agrees.outs n o out).now).1
 
 pub puts_go_on : l.PutsGoOn
 puts_go_on opened past s p put o ok is ends alike h =
@@ -57,10 +57,10 @@ puts_go_on opened past s p put o ok is ends alike h =
     let b = ends s.keys.block seen_o (out_is s put.who (put_task put) o is.out) (settled_put opened past s put.name seen_o (put_bytes put) h at d) in
     subst (λ since. let x = putted opened put.who since put.name (put_bytes put) ok in IsLawful (files s.keys) (file_rules s.keys) opened past (begun past x) x.note × AgreesWith opened (x ∷ past) (with_pool p s))
     (since_is s put.who (put_task put) o is.out)
-    (let g = puts_keep (files s.keys) (file_rules s.keys) opened past (seen s) (seen (with_pool p s)) put.name seen_o (put_bytes put) ok at d b h.agrees in (
+    (let g = puts_keep (files s.keys) (file_rules s.keys) opened past (standing_view s) (standing_view (with_pool p s)) put.name seen_o (put_bytes put) ok at d b h.agrees in (
       g.0,
       noted opened past s p put.name (putted opened put.who o.since put.name (put_bytes put) ok).note (same_name-refl put.name) refl alike b.rest b.pins b.out b.resident
-          (others_mark_nothing.stores put.name seen_o ok (seen s) (seen (with_pool p s)) b) h g.1,
+          (others_mark_nothing.stores put.name seen_o ok (standing_view s) (standing_view (with_pool p s)) b) h g.1,
     ))
 
 pub discards_go_on : l.DiscardsGoOn
@@ -70,10 +70,10 @@ discards_go_on opened past s p away o ok is ends alike h =
     let b = ends s.keys.block seen_o (out_is s away.who (discard_task away) o is) in
     subst (λ since. let x = dropped_note opened away.who since away.name ok in IsLawful (files s.keys) (file_rules s.keys) opened past (begun past x) x.note × AgreesWith opened (x ∷ past) (with_pool p s))
     (since_is s away.who (discard_task away) o is)
-    (let g = discards_keep (files s.keys) (file_rules s.keys) opened past (seen s) (seen (with_pool p s)) away.name seen_o ok at (discard_seen s away o is) b h.agrees in (
+    (let g = discards_keep (files s.keys) (file_rules s.keys) opened past (standing_view s) (standing_view (with_pool p s)) away.name seen_o ok at (discard_seen s away o is) b h.agrees in (
       g.0,
       noted opened past s p away.name (dropped_note opened away.who o.since away.name ok).note (same_name-refl away.name) refl alike b.rest b.pins b.out b.resident
-          (others_mark_nothing.discards away.name seen_o ok (seen s) (seen (with_pool p s)) b) h g.1,
+          (others_mark_nothing.discards away.name seen_o ok (standing_view s) (standing_view (with_pool p s)) b) h g.1,
     ))
 
 pub fruitless_gets_go_on : l.FruitlessGetsGoOn
@@ -83,8 +83,8 @@ fruitless_gets_go_on opened past s p job o answer is ends alike h =
     let b = ends s.keys.block in
     subst (λ since. let x = got opened job.who since job.name answer in IsLawful (files s.keys) (file_rules s.keys) opened past (begun past x) x.note × AgreesWith opened (x ∷ past) (with_pool p s))
     (since_is s job.who (get_task job) o is.out)
-    (let g = fruitless_gets_keep (files s.keys) (file_rules s.keys) opened past (seen s) (seen (with_pool p s)) job.name seen_o job.expect answer at (get_seen s job o is) b h.agrees in (
+    (let g = fruitless_gets_keep (files s.keys) (file_rules s.keys) opened past (standing_view s) (standing_view (with_pool p s)) job.name seen_o job.expect answer at (get_seen s job o is) b h.agrees in (
       g.0,
       noted opened past s p job.name (got opened job.who o.since job.name answer).note (same_name-refl job.name) refl alike b.rest b.pins b.out b.resident
-          (others_mark_nothing.withdraws job.name (seen s) (seen (with_pool p s)) b) h g.1,
+          (others_mark_nothing.withdraws job.name (standing_view s) (standing_view (with_pool p s)) b) h g.1,
     ))

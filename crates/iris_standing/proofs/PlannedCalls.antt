@@ -1,10 +1,9 @@
 -- A planned request is answered: what agreed with the history agrees with the one that the call ends.
-use Rattle.std.proofs.Common.{◌≡◌, ◌≢◌, ◌≤◌, ◌⊎◌, inl, inr, ◌∷◌, ℕ, Bool, true, false, List, Option, Some, None, refl, ap, sym, ◌∙◌, subst, true≢false, is_some}
+use Rattle.std.proofs.Common.{◌≡◌, ◌≢◌, inl, inr, ◌∷◌, ℕ, true, Option, Some, refl, ap, sym, ◌∙◌, subst, is_some}
 use Rattle.std.specs.Option.{option_map}
 use Rattle.iris_blocks.specs.Paged.{Paged, Shows, held_page}
 use Rattle.iris_cache.proofs.Keeping.{alike-keeps}
 use Rattle.iris_cache.specs.declared.held.Held.{Held}
-use Rattle.iris_cache.specs.Laws.{AreAlike}
 use Rattle.iris_cache.specs.Pictures.{IsHashOf, IsSettled, Pictures}
 use Rattle.iris_cache.specs.Resident.{held_node}
 use Rattle.iris_desk.specs.AtDesks.{DesksState, asked_by, is_doomed, keeps_for}
@@ -13,7 +12,7 @@ use Rattle.iris_file_rules.specs.FileTable.{files}
 use Rattle.iris_file_rules.specs.Rules.{FileReplies, file_rules, files_after, shown_after}
 use Rattle.iris_file_rules.specs.TableLaws.{IsWellFormed}
 use Rattle.iris_forest.proofs.NodesAreFormed.{rooted}
-use Rattle.iris_history.specs.Kept.{Kept, is_block, shown_in}
+use Rattle.iris_history.specs.Kept.{Kept, is_block}
 use Rattle.iris_history.specs.Legal.{IsLawful}
 use Rattle.iris_history.specs.StatusLaws.{called}
 use Rattle.iris_history.specs.Values.{IsReply, IsRequest}
@@ -21,7 +20,7 @@ use Rattle.iris_invariant.proofs.Begins.{resident_live}
 use Rattle.iris_invariant.proofs.Bounds.{calls_keep_the_bound, calls_mark_at_most}
 use Rattle.iris_invariant.proofs.EventLaws.{calls_keep}
 use Rattle.iris_invariant.proofs.ParentLaws.{evidence_stays, parents_stay}
-use Rattle.iris_invariant.specs.Agrees.{Agrees, Cell, Out, View, marked}
+use Rattle.iris_invariant.specs.Agrees.{Cell, Out, View, marked}
 use Rattle.iris_invariant.specs.Bounds.{AtMost, IsChangedOf}
 use Rattle.iris_invariant.specs.Cells.{cell_at, is_touched_at, touched_if}
 use Rattle.iris_invariant.specs.Events.{Answered, Moved}
@@ -48,8 +47,8 @@ use Rattle.iris_standing.proofs.DraftsMade.{hash_stays, landed_shows, moves, pic
 use Rattle.iris_standing.proofs.SeenTransfers.{cell_out}
 use Rattle.iris_standing.proofs.SettledCells.{moved_so, pins_stay, settled_there, settles_twice, was_there}
 use Rattle.iris_standing.proofs.SettledRoots.{all_settled, picture_settled, trash_hash, visible_hash}
-use Rattle.iris_standing.specs.Calls.{Answers, GoesOnByCall, HasMarksFor, PlannedCallsGoOn, answered, kept_hash}
-use Rattle.iris_standing.specs.Standing.{AgreesWith, Standing, leads_to, seen}
+use Rattle.iris_standing.specs.Calls.{CarriesOutPlan, GoesOnByCall, HasMarksFor, PlannedCallsGoOn, answered}
+use Rattle.iris_standing.specs.Standing.{AgreesWith, Standing, leads_to, standing_view}
 use Rattle.iris_table.specs.Replies.{TableReplies}
 use Rattle.iris_table_laws.proofs.NodeParents.{roots_have_none}
 use Rattle.iris_upkeep.specs.SettlesInto.{SettlesInto}
@@ -71,16 +70,16 @@ right_reply keys past Reclaim reply is h = absurd is
 right_reply keys past (Probe at) reply is h = absurd is
 
 -- at most 512 blocks stay marked
-bound_stays : (k : Kept) (past : Past) (x : Stamped) (who : ℕ) (s : Standing) (v' : View) (request : Request) → Answered k past x who (seen s) v' → IsPlannable request → HasMarksFor request s
-    → AtMost 512 (IsMarkedBlock (seen s)) → AtMost (most_changed request) (IsChangedOf is_block k past x) → AtMost 512 (IsMarkedBlock v')
-bound_stays k past x who s v' (Write path offset bytes) a is marks bound few = calls_keep_the_bound k past x who (seen s) v' a marks few
-bound_stays k past x who s v' (Resize path size) a is marks bound few = calls_keep_the_bound k past x who (seen s) v' a marks few
-bound_stays k past x who s v' (Mkdir path) a is marks bound few = calls_mark_at_most k is_block 512 0 past x who (seen s) v' a bound few
-bound_stays k past x who s v' (Create path) a is marks bound few = calls_mark_at_most k is_block 512 0 past x who (seen s) v' a bound few
-bound_stays k past x who s v' (Read path offset count) a is marks bound few = calls_mark_at_most k is_block 512 0 past x who (seen s) v' a bound few
-bound_stays k past x who s v' (Stat path) a is marks bound few = calls_mark_at_most k is_block 512 0 past x who (seen s) v' a bound few
-bound_stays k past x who s v' (ListNames path after) a is marks bound few = calls_mark_at_most k is_block 512 0 past x who (seen s) v' a bound few
-bound_stays k past x who s v' (Rename from to) a is marks bound few = calls_mark_at_most k is_block 512 0 past x who (seen s) v' a bound few
+bound_stays : (k : Kept) (past : Past) (x : Stamped) (who : ℕ) (s : Standing) (v' : View) (request : Request) → Answered k past x who (standing_view s) v' → IsPlannable request → HasMarksFor request s
+    → AtMost 512 (IsMarkedBlock (standing_view s)) → AtMost (most_changed request) (IsChangedOf is_block k past x) → AtMost 512 (IsMarkedBlock v')
+bound_stays k past x who s v' (Write path offset bytes) a is marks bound few = calls_keep_the_bound k past x who (standing_view s) v' a marks few
+bound_stays k past x who s v' (Resize path size) a is marks bound few = calls_keep_the_bound k past x who (standing_view s) v' a marks few
+bound_stays k past x who s v' (Mkdir path) a is marks bound few = calls_mark_at_most k is_block 512 0 past x who (standing_view s) v' a bound few
+bound_stays k past x who s v' (Create path) a is marks bound few = calls_mark_at_most k is_block 512 0 past x who (standing_view s) v' a bound few
+bound_stays k past x who s v' (Read path offset count) a is marks bound few = calls_mark_at_most k is_block 512 0 past x who (standing_view s) v' a bound few
+bound_stays k past x who s v' (Stat path) a is marks bound few = calls_mark_at_most k is_block 512 0 past x who (standing_view s) v' a bound few
+bound_stays k past x who s v' (ListNames path after) a is marks bound few = calls_mark_at_most k is_block 512 0 past x who (standing_view s) v' a bound few
+bound_stays k past x who s v' (Rename from to) a is marks bound few = calls_mark_at_most k is_block 512 0 past x who (standing_view s) v' a bound few
 bound_stays k past x who s v' (Remove path) a is marks bound few = absurd is
 bound_stays k past x who s v' Sync a is marks bound few = absurd is
 bound_stays k past x who s v' Root a is marks bound few = absurd is
@@ -89,14 +88,14 @@ bound_stays k past x who s v' (Probe at) a is marks bound few = absurd is
 
 module _ (opened : ℕ) (past : Past) (s : Standing) (q : PoolState) (visible trash : Option Hash32) (who : ℕ) (request : Request) (plan : Planned)
     (pool : IsPool s.pool) (plannable : IsPlannable request) (is_request : IsRequest request) (is_reply : IsReply plan.reply) (marks : HasMarksFor request s)
-    (ful : Fulfills s.keys.order (files_after s.keys past) request s.pool.nodes s.pool.pages plan) (ans : Answers s.keys.block who plan s.pool q visible trash) (agrees : AgreesWith opened past s) where
+    (ful : Fulfills s.keys.order (files_after s.keys past) request s.pool.nodes s.pool.pages plan) (ans : CarriesOutPlan s.keys.block who plan s.pool q visible trash) (agrees : AgreesWith opened past s) where
   abbrev note : Stamped
   note = called opened who request plan.reply
 
   well : IsWellFormed (shown_after s.keys (note ∷ past))
   well = well_formed s.keys (note ∷ past)
 
-  moved_by_drafts : (n : Name) → Moved (files s.keys) past note n ((seen s).cell n) ((pool_view s.keys.block ans.drafted).cell n)
+  moved_by_drafts : (n : Name) → Moved (files s.keys) past note n ((standing_view s).cell n) ((pool_view s.keys.block ans.drafted).cell n)
   moved_by_drafts = moves s.keys past note s.pool ans.drafted plan.draft plan.pages pool agrees.agrees.listed agrees.shows.shows ful.leads.drafts ful.leads.changes ans.lands
 
   pictures_drafted : Pictures (shown_after s.keys (note ∷ past)) ans.drafted.nodes
@@ -127,7 +126,7 @@ module _ (opened : ℕ) (past : Past) (s : Standing) (q : PoolState) (visible tr
   nodes_settle : (n : Name) → SettlesInto (held_node ans.drafted.nodes n) (held_node ans.settled.nodes n)
   nodes_settle n = settles_twice (held_node ans.drafted.nodes n) (held_node ans.settles.middle.nodes n) (held_node ans.settled.nodes n) (ans.settles.first.nodes n) (ans.settles.second.nodes n)
 
-  full : (n : Name) → ((seen s).cell n).resident ≡ true → ((seen s).cell n).settled ≡ true
+  full : (n : Name) → ((standing_view s).cell n).resident ≡ true → ((standing_view s).cell n).settled ≡ true
   full (Entry i) r = settled_there (held_node s.pool.nodes (Entry i)) (agrees.settled (Entry i)) r
   full (Part f l i) r = settled_there (held_node s.pool.nodes (Part f l i)) (agrees.settled (Part f l i)) r
   full (Block f p) r = r
@@ -137,14 +136,14 @@ module _ (opened : ℕ) (past : Past) (s : Standing) (q : PoolState) (visible tr
   settled_cell n = ap (λ (b : Paged). cell_at n (held_node ans.settled.nodes n) (held_page b n) (is_doomed ans.settled.desks n) (out_seen s.keys.block ans.settled.desks n)) pages_stay
       ∙ ap (λ (d : DesksState). cell_at n (held_node ans.settled.nodes n) (held_page ans.drafted.pages n) (is_doomed d n) (out_seen s.keys.block d n)) desks_stay
 
-  call_moves : (n : Name) → Moved (files s.keys) past note n ((seen s).cell n) ((pool_view s.keys.block q).cell n)
-  call_moves n = subst (λ (c : Cell). Moved (files s.keys) past note n ((seen s).cell n) c) (sym (ans.entered.cell n ∙ settled_cell n))
-      (moved_so (files s.keys) past note n ((seen s).cell n) (held_node ans.drafted.nodes n) (held_node ans.settled.nodes n) (held_page ans.drafted.pages n) (is_doomed ans.drafted.desks n) (out_seen s.keys.block ans.drafted.desks n)
+  call_moves : (n : Name) → Moved (files s.keys) past note n ((standing_view s).cell n) ((pool_view s.keys.block q).cell n)
+  call_moves n = subst (λ (c : Cell). Moved (files s.keys) past note n ((standing_view s).cell n) c) (sym (ans.entered.cell n ∙ settled_cell n))
+      (moved_so (files s.keys) past note n ((standing_view s).cell n) (held_node ans.drafted.nodes n) (held_node ans.settled.nodes n) (held_page ans.drafted.pages n) (is_doomed ans.drafted.desks n) (out_seen s.keys.block ans.drafted.desks n)
       (nodes_settle n) (full n) (moved_by_drafts n))
 
   -- ---- the call is entered
 
-  still_out : (n : Name) (o : Out) → ((seen s).cell n).out ≡ Some o
+  still_out : (n : Name) (o : Out) → ((standing_view s).cell n).out ≡ Some o
       → ((pool_view s.keys.block ans.settled).cell n).out ≡ Some (touched_if (is_touched_at n (held_node s.pool.nodes n) (held_node ans.drafted.nodes n) (held_page s.pool.pages n) (held_page ans.drafted.pages n)) o)
   still_out n o e =
       cell_out s.keys.block ans.settled n
@@ -171,7 +170,7 @@ module _ (opened : ℕ) (past : Past) (s : Standing) (q : PoolState) (visible tr
       let le = ans.entered.callers w n (kept_still w n ∙ kept) in
       ans.entered.pinned w n le other ∙ pins_settle w n ∙ ans.lands.pinned w n kept (present n (sym (ap (λ (c : Cell). c.resident) (ans.entered.cell n)) ∙ r))
 
-  is_answered : Answered (files s.keys) past note who (seen s) (pool_view s.keys.block q)
+  is_answered : Answered (files s.keys) past note who (standing_view s) (pool_view s.keys.block q)
   is_answered = record {
     idle = λ n o e. ans.entered.idle n _ (still_out n o e);
     moved = call_moves;
@@ -179,7 +178,7 @@ module _ (opened : ℕ) (past : Past) (s : Standing) (q : PoolState) (visible tr
     freed = ans.entered.freed;
     kept = λ w n other. ans.entered.kept w n other ∙ kept_still w n;
     pinned = λ w n other kept was now. pinned_now w n other kept now
-        ∙ sym (agrees.agrees.pins w n kept (resident_live (files s.keys) n past ((seen s).cell n).resident (marked ((seen s).cell n)) (agrees.agrees.marks n) was)).1;
+        ∙ sym (agrees.agrees.pins w n kept (resident_live (files s.keys) n past ((standing_view s).cell n).resident (marked ((standing_view s).cell n)) (agrees.agrees.marks n) was)).1;
     again = λ w n other kept was now. pinned_now w n other kept now;
   }
 
@@ -203,19 +202,22 @@ module _ (opened : ℕ) (past : Past) (s : Standing) (q : PoolState) (visible tr
       ans.drafted ans.settled visible trash ans.settles pictures_drafted)
 
   pub goes_on : GoesOnByCall opened past who request plan.reply s (answered plan.counters q visible trash s)
-  goes_on = (lawful, record {
-    agrees = (calls_keep (files s.keys) (file_rules s.keys) opened past (seen s) (pool_view s.keys.block q) who request plan.reply lawful is_answered agrees.agrees).1;
-    shows = shows_after;
-    visible = λ b. visible_hash (shown_after s.keys (note ∷ past)) well.tree well.formed (rooted s.keys.order (files_after s.keys (note ∷ past)) (tables_sound s.keys (note ∷ past))) rooted_after trash_rooted_after
-        ans.drafted ans.settled visible trash ans.settles pictures_drafted s.visible (stays 0 s.visible agrees.visible);
-    trash = λ b. trash_hash (shown_after s.keys (note ∷ past)) well.tree well.formed (rooted s.keys.order (files_after s.keys (note ∷ past)) (tables_sound s.keys (note ∷ past))) rooted_after trash_rooted_after
-        ans.drafted ans.settled visible trash ans.settles pictures_drafted s.trash (stays 1 s.trash agrees.trash);
-    settled = settled_after;
-    parents = (parents_stay (files s.keys)).calls leads_to past note who (seen s) (pool_view s.keys.block q) agrees.parents is_answered;
-    evidence = (evidence_stays (files s.keys)).calls opened who request plan.reply past (seen s) (pool_view s.keys.block q) is_answered agrees.evidence;
-    bound = bound_stays (files s.keys) past note who s (pool_view s.keys.block q) request is_answered plannable marks agrees.bound
-        (few_changed_by s.keys.order (files_after s.keys past) agrees.shows.sound request plan.reply plannable);
-  })
+  goes_on = (
+    lawful,
+    record {
+      agrees = (calls_keep (files s.keys) (file_rules s.keys) opened past (standing_view s) (pool_view s.keys.block q) who request plan.reply lawful is_answered agrees.agrees).1;
+      shows = shows_after;
+      visible = λ b. visible_hash (shown_after s.keys (note ∷ past)) well.tree well.formed (rooted s.keys.order (files_after s.keys (note ∷ past)) (tables_sound s.keys (note ∷ past))) rooted_after trash_rooted_after
+          ans.drafted ans.settled visible trash ans.settles pictures_drafted s.visible (stays 0 s.visible agrees.visible);
+      trash = λ b. trash_hash (shown_after s.keys (note ∷ past)) well.tree well.formed (rooted s.keys.order (files_after s.keys (note ∷ past)) (tables_sound s.keys (note ∷ past))) rooted_after trash_rooted_after
+          ans.drafted ans.settled visible trash ans.settles pictures_drafted s.trash (stays 1 s.trash agrees.trash);
+      settled = settled_after;
+      parents = (parents_stay (files s.keys)).calls leads_to past note who (standing_view s) (pool_view s.keys.block q) agrees.parents is_answered;
+      evidence = (evidence_stays (files s.keys)).calls opened who request plan.reply past (standing_view s) (pool_view s.keys.block q) is_answered agrees.evidence;
+      bound = bound_stays (files s.keys) past note who s (pool_view s.keys.block q) request is_answered plannable marks agrees.bound
+          (few_changed_by s.keys.order (files_after s.keys past) agrees.shows.sound request plan.reply plannable);
+    },
+  )
 
 pub planned_calls_go_on : PlannedCallsGoOn
 planned_calls_go_on opened past s q visible trash who request plan pool plannable is_request is_reply marks ful ans agrees =

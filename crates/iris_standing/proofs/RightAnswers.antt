@@ -30,7 +30,7 @@ use Rattle.iris_node.specs.Spelling.{SpellsNode}
 use Rattle.iris_node.specs.Unfolded.{Unfolded}
 use Rattle.iris_pool.specs.Pool.{PoolState}
 use Rattle.iris_records.specs.Records.{spelled}
-use Rattle.iris_standing.specs.Standing.{Standing, AgreesWith, StandsFor, leads_to, seen, with_pool}
+use Rattle.iris_standing.specs.Standing.{Standing, AgreesWith, StandsFor, leads_to, standing_view, with_pool}
 use Rattle.iris_standing.proofs.CarriedOver.{AreSettled, carried_over}
 
 -- a record for what is expected passes the invariant's check
@@ -59,56 +59,56 @@ pub record ShowsTable (s : Standing) (past : Past) (p : PoolState) : Type 0 wher
   pub shows : Shows (shown_after s.keys past) p.pages
   pub settled : AreSettled p.nodes
 
-module _ (opened : ℕ) (past : Past) (s : Standing) (p : PoolState) (n : Name) (o : Out) (x : Expect) (bytes : List ℕ) (out : ((seen s).cell n).out ≡ Some o) (d : o.doing ≡ Getting x) where
+module _ (opened : ℕ) (past : Past) (s : Standing) (p : PoolState) (n : Name) (o : Out) (x : Expect) (bytes : List ℕ) (out : ((standing_view s).cell n).out ≡ Some o) (d : o.doing ≡ Getting x) where
   abbrev note : Stamped
   note = got opened o.who o.since n (Given bytes)
 
-  going : AgreesWith opened past s → Going (files s.keys) (file_rules s.keys) opened n past ((seen s).cell n) o
+  going : AgreesWith opened past s → Going (files s.keys) (file_rules s.keys) opened n past ((standing_view s).cell n) o
   going h = h.agrees.outs n o out
 
   -- it is a get's
-  pub gets_now : AgreesWith opened past s → Gets (files s.keys) n past (is_challenge o.request n) ((seen s).cell n) o.touched
-  gets_now h = subst (StaysRight (files s.keys) n past (is_challenge o.request n) ((seen s).cell n) o.touched) d (going h).now
+  pub gets_now : AgreesWith opened past s → Gets (files s.keys) n past (is_challenge o.request n) ((standing_view s).cell n) o.touched
+  gets_now h = subst (StaysRight (files s.keys) n past (is_challenge o.request n) ((standing_view s).cell n) o.touched) d (going h).now
 
   first : AgreesWith opened past s → WasRight (files s.keys) (file_rules s.keys) n o.request o.crowded (Getting x) (oldest (opened + o.since) past)
   first h = subst (λ z. WasRight (files s.keys) (file_rules s.keys) n o.request o.crowded z (oldest (opened + o.since) past)) d (going h).first
 
   -- what its name stood for
   abbrev was : AgreesWith opened past s → (u : Unfolded) × (shown_in (files s.keys) (oldest (opened + o.since) past) n ≡ Some u)
-  was h = stood (files s.keys) (file_rules s.keys) SpellsNode n opened past ((seen s).cell n) o x (Given bytes) (going h) d
+  was h = stood (files s.keys) (file_rules s.keys) SpellsNode n opened past ((standing_view s).cell n) o x (Given bytes) (going h) d
 
   told : (h : AgreesWith opened past s) → bytes ≡ spelled s.keys.block n (was h).0 → IsTold s past n x o bytes
   told h is = record {
     u = (was h).0;
     is = is;
-    now = stands (files s.keys) (file_rules s.keys) SpellsNode n opened past ((seen s).cell n) o x (Given bytes) (going h) d;
+    now = stands (files s.keys) (file_rules s.keys) SpellsNode n opened past ((standing_view s).cell n) o x (Given bytes) (going h) d;
     expected = subst (IsTrueOf (files s.keys) n x) (was h).1 (first h).1;
   }
 
   at : AgreesWith opened past s → begun past note ≡ oldest (opened + o.since) past
-  at h = begun_then (files s.keys) (file_rules s.keys) n opened past ((seen s).cell n) o (going h) note.note refl
+  at h = begun_then (files s.keys) (file_rules s.keys) n opened past ((standing_view s).cell n) o (going h) note.note refl
 
-  agreed : (h : AgreesWith opened past s) → bytes ≡ spelled s.keys.block n (was h).0 → ShowsTable s past p → Brought n o (seen s) (seen (with_pool p s))
-      → Agrees (files s.keys) (file_rules s.keys) opened (note ∷ past) (seen (with_pool p s)) → AgreesWith opened (note ∷ past) (with_pool p s)
+  agreed : (h : AgreesWith opened past s) → bytes ≡ spelled s.keys.block n (was h).0 → ShowsTable s past p → Brought n o (standing_view s) (standing_view (with_pool p s))
+      → Agrees (files s.keys) (file_rules s.keys) opened (note ∷ past) (standing_view (with_pool p s)) → AgreesWith opened (note ∷ past) (with_pool p s)
   agreed h is shown b agrees = carried_over opened past (note ∷ past) s p h (record {
     table = refl;
     pictures = shown.pictures;
     shows = shown.shows;
     settled = shown.settled;
     agrees = agrees;
-    parents = (parents_stay (files s.keys)).ends leads_to past (note ∷ past) n (seen s) (seen (with_pool p s)) h.parents b.rest (λ q. refl) b.out
-        (stays_resident o.who o.touched ((seen s).cell n) ((seen (with_pool p s)).cell n) (λ w. (seen s).pinned w n) (λ w. (seen (with_pool p s)).pinned w n) b.brings);
-    evidence = (evidence_stays (files s.keys)).gets opened past (seen s) (seen (with_pool p s)) n o (Given bytes) b
+    parents = (parents_stay (files s.keys)).ends leads_to past (note ∷ past) n (standing_view s) (standing_view (with_pool p s)) h.parents b.rest (λ q. refl) b.out
+        (stays_resident o.who o.touched ((standing_view s).cell n) ((standing_view (with_pool p s)).cell n) (λ w. (standing_view s).pinned w n) (λ w. (standing_view (with_pool p s)).pinned w n) b.brings);
+    evidence = (evidence_stays (files s.keys)).gets opened past (standing_view s) (standing_view (with_pool p s)) n o (Given bytes) b
         (record { u = (was h).0; live = ap (λ q. shown_in (files s.keys) q n) (at h) ∙ (was h).1; is = ap Given is }) h.evidence;
-    fewer = others_mark_nothing.brings n o (seen s) (seen (with_pool p s)) b;
+    fewer = others_mark_nothing.brings n o (standing_view s) (standing_view (with_pool p s)) b;
   })
 
-  pub kept_right : (IsTold s past n x o bytes → LegalFiles s.keys past → AgreesWith opened past s → ShowsTable s past p) → PassesCheck (files s.keys) SpellsNode n x bytes → Brought n o (seen s) (seen (with_pool p s))
+  pub kept_right : (IsTold s past n x o bytes → LegalFiles s.keys past → AgreesWith opened past s → ShowsTable s past p) → PassesCheck (files s.keys) SpellsNode n x bytes → Brought n o (standing_view s) (standing_view (with_pool p s))
       → StandsFor opened past s → StandsFor opened (note ∷ past) (with_pool p s)
   kept_right shows pass b (inl bad) = inl (inr bad)
-  kept_right shows pass b (inr h) = by (fruitful_gets_keep (files s.keys) (file_rules s.keys) opened past (seen s) (seen (with_pool p s)) n o x (Given bytes) out d b h.1.agrees) where
-    by : IsLawful (files s.keys) (file_rules s.keys) opened past (begun past note) note.note × Agrees (files s.keys) (file_rules s.keys) opened (note ∷ past) (seen (with_pool p s)) → StandsFor opened (note ∷ past) (with_pool p s)
-    by g = elim (passed_right (files s.keys) (file_rules s.keys) SpellsNode n opened past ((seen s).cell n) o x (Given bytes) (going h.1) d (spells s.keys (file_rules s.keys)) (one s.keys) (g.0, h.0) bytes refl pass) [
+  kept_right shows pass b (inr h) = by (fruitful_gets_keep (files s.keys) (file_rules s.keys) opened past (standing_view s) (standing_view (with_pool p s)) n o x (Given bytes) out d b h.1.agrees) where
+    by : IsLawful (files s.keys) (file_rules s.keys) opened past (begun past note) note.note × Agrees (files s.keys) (file_rules s.keys) opened (note ∷ past) (standing_view (with_pool p s)) → StandsFor opened (note ∷ past) (with_pool p s)
+    by g = elim (passed_right (files s.keys) (file_rules s.keys) SpellsNode n opened past ((standing_view s).cell n) o x (Given bytes) (going h.1) d (spells s.keys (file_rules s.keys)) (one s.keys) (g.0, h.0) bytes refl pass) [
       | inl bad ↦ inl bad
       | inr is ↦ inr ((g.0, h.0), agreed h.1 is (shows (told h.1 is) h.0 h.1) b g.1)
     ]

@@ -6,7 +6,7 @@ use Rattle.iris_desk.specs.declared.out.Doing.TheVariants.{Get, Put, Discard}
 use Rattle.iris_desk.specs.declared.out.Out as pending
 use Rattle.iris_desk.specs.declared.out.Record.{Record}
 use Rattle.iris_desk.specs.declared.out.Task.{Task}
-use Rattle.iris_invariant.specs.Agrees.{Doing, Getting, Putting, Dropping, Out}
+use Rattle.iris_invariant.specs.Agrees.{Getting, Putting, Dropping, Out}
 use Rattle.iris_jobs.specs.Chores.{PutState, put_bytes, put_task, record_bytes, discard_task}
 use Rattle.iris_jobs.specs.declared.chore.Away.{Away}
 use Rattle.iris_jobs.specs.Jobs.{JobState, get_task}
@@ -16,7 +16,7 @@ use Rattle.iris_name.specs.declared.note.Expect.{Expect}
 use Rattle.iris_pool.specs.Pool.{PoolState}
 use Rattle.iris_pool.specs.View.{doing_by, out_seen, pool_view}
 use Rattle.iris_pool.proofs.OutSeen.{asked_for, seen_out}
-use Rattle.iris_standing.specs.Standing.{Standing, seen}
+use Rattle.iris_standing.specs.Standing.{Standing, standing_view}
 use Rattle.iris_standing.specs.Transfers.{IsOutAs, IsPutOut, IsGetOut}
 
 -- what is seen of it
@@ -33,7 +33,7 @@ module _ (s : Standing) (who : ℕ) (task : Task) (o : pending.Out) (h : IsOutAs
   pub out_is : out_seen s.keys.block s.pool.desks task.name ≡ Some (seen_as s who o)
   out_is = seen_out s.keys.block s.pool.desks task.name who o h.out
 
-  pub cell_is : ((seen s).cell task.name).out ≡ Some (seen_as s who o)
+  pub cell_is : ((standing_view s).cell task.name).out ≡ Some (seen_as s who o)
   cell_is = cell_out s.keys.block s.pool task.name ∙ out_is
 
   pub since_is : o.since ≡ task.since

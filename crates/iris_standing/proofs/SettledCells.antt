@@ -1,5 +1,5 @@
 -- What settling leaves of a name's cell: all but the mark that it is settled, and that too where it was.
-use Rattle.std.proofs.Common.{◌≡◌, ◌∷◌, ℕ, Bool, true, false, Option, Some, None, refl, ap, sym, ◌∙◌, true≢false, is_some}
+use Rattle.std.proofs.Common.{◌≡◌, ℕ, Bool, true, Option, Some, None, refl, ap, sym, ◌∙◌, true≢false, is_some}
 use Rattle.iris_blocks.specs.declared.held.PageHeld.{PageHeld}
 use Rattle.iris_cache.specs.declared.held.Held.{Held}
 use Rattle.iris_history.specs.Kept.{Kept}

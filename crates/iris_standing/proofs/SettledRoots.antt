@@ -1,9 +1,9 @@
 -- Once both roots are settled, every cached node is; each cell is as it was but for the mark that it is settled; and the hashes that
 -- are kept of the roots are true.
-use Rattle.std.proofs.Common.{◌≡◌, ◌⊎◌, inl, inr, ℕ, zero, suc, Bool, true, false, List, Option, Some, None, refl, ap, sym, ◌∙◌, subst, true≢false, is_some}
+use Rattle.std.proofs.Common.{◌≡◌, ◌⊎◌, inl, inr, ℕ, zero, suc, Bool, true, false, Option, Some, None, refl, ap, sym, ◌∙◌, subst, true≢false, is_some}
 use Rattle.std.specs.Prelude.{IfSome, IsSomeAnd}
 use Rattle.std.specs.Option.{option_map}
-use Rattle.iris_cache.proofs.Rising.{above-none, above-same, or-left, or-right, or-split}
+use Rattle.iris_cache.proofs.Rising.{above-none, above-same, or-left, or-right}
 use Rattle.iris_cache.specs.Applied.{is_above_within}
 use Rattle.iris_cache.specs.declared.held.Held.{Held}
 use Rattle.iris_cache.specs.Laws.{AreFormed}
@@ -16,7 +16,7 @@ use Rattle.iris_name.specs.declared.name.Name.TheVariants.{Entry}
 use Rattle.iris_name.specs.NameLaws.{same_name_equiv}
 use Rattle.iris_name.specs.Names.{same_name}
 use Rattle.iris_node.specs.Trees.{Shown, IsParent, IsTree}
-use Rattle.iris_node.specs.Unfolded.{Unfolded, hash, id_of, node_of}
+use Rattle.iris_node.specs.Unfolded.{hash, id_of}
 use Rattle.iris_pool.specs.Pool.{PoolState}
 use Rattle.iris_standing.proofs.RootsAbove.{below_root}
 use Rattle.iris_standing.specs.Calls.{SettlesBoth, SettlesRoot, kept_hash}
@@ -75,13 +75,16 @@ module _ (t : Shown) (tree : IsTree t) (formed : AreFormed t) where
     told_hash y e v live =
         let h = told_of (held_node q.nodes root) y e in
         let below : (n : Name) (g : Held) → held_node q.nodes n ≡ Some g → g.parent ≡ Some root → g.settled ≡ true = λ n g at of.
-            let up : resident_parent p.nodes n ≡ Some root = sym (parent_kept (held_node p.nodes n) (held_node q.nodes n) (s.nodes n)) ∙ ap parent_in at ∙ of in
-            s.settled (pictured p pic) n g (child_below n up) at in
+        let up : resident_parent p.nodes n ≡ Some root = sym (parent_kept (held_node p.nodes n) (held_node q.nodes n) (s.nodes n)) ∙ ap parent_in at ∙ of in
+        s.settled (pictured p pic) n g (child_below n up) at in
         ap (option_map hash) (settled_is_true t q.nodes root v h.0 (s.pictures t pic tree formed) tree formed h.1 live below) ∙ h.2
       where
         child_below : (n : Name) → resident_parent p.nodes n ≡ Some root → IsAtOrBelow p.nodes n root
-        child_below n up = (2, or-right (same_name n root) (is_above_within (resident_parent p.nodes) 1 (resident_parent p.nodes n) root)
-            (ap (λ o. is_above_within (resident_parent p.nodes) 1 o root) up ∙ or-left (same_name root root) false (same_name_equiv.refl root)))
+        child_below n up = (
+          2,
+          or-right (same_name n root) (is_above_within (resident_parent p.nodes) 1 (resident_parent p.nodes n) root)
+              (ap (λ o. is_above_within (resident_parent p.nodes) 1 o root) up ∙ or-left (same_name root root) false (same_name_equiv.refl root)),
+        )
 
     pub hash_kept : (x : Hash32) → (IsSettled (held_node p.nodes root) → IsHashOf (t root) x) → IsHashOf (t root) (kept_hash told x)
     hash_kept x f = by told s.tells s.some where

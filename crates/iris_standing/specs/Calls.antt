@@ -32,7 +32,7 @@ use Rattle.iris_requests.specs.declared.planned.Counters.{Counters}
 use Rattle.iris_requests.specs.declared.planned.Planned.{Planned}
 use Rattle.iris_requests.specs.Planned.{Fulfills, after_reply}
 use Rattle.iris_requests.specs.Served.{IsPlannable}
-use Rattle.iris_standing.specs.Standing.{Standing, seen, with_pool, AgreesWith}
+use Rattle.iris_standing.specs.Standing.{Standing, standing_view, with_pool, AgreesWith}
 use Rattle.iris_upkeep.specs.Marks.{IsAtOrBelow, IsMarked, PicturesTree}
 use Rattle.iris_upkeep.specs.SettlesInto.{SettlesInto, StaysOrIsTold}
 use Rattle.iris_upkeep.specs.declared.descent.What.TheVariants.{Unsettled}
@@ -61,7 +61,7 @@ pub record SettlesBoth (p q : PoolState) (visible trash : Option Hash32) : Type 
 
 -- What a planned request makes of the pool, in the order of the code: its drafts are made, both roots are settled, and the call
 -- is entered.
-pub record Answers (key : List ℕ) (who : ℕ) (plan : Planned) (p q : PoolState) (visible trash : Option Hash32) : Type 0 where
+pub record CarriesOutPlan (key : List ℕ) (who : ℕ) (plan : Planned) (p q : PoolState) (visible trash : Option Hash32) : Type 0 where
   pub drafted : PoolState
   pub settled : PoolState
   pub lands : LandsIn plan.draft plan.pages p drafted
@@ -75,8 +75,8 @@ answered counters q visible trash s = record s { pool = q; visible = kept_hash v
 
 -- fewer than 448 blocks are marked where the request changes a file's bytes
 abbrev pub HasMarksFor : Request → Standing → Type 0
-HasMarksFor (Write path offset bytes) s = AtMost 447 (IsMarkedBlock (seen s))
-HasMarksFor (Resize path size) s = AtMost 447 (IsMarkedBlock (seen s))
+HasMarksFor (Write path offset bytes) s = AtMost 447 (IsMarkedBlock (standing_view s))
+HasMarksFor (Resize path size) s = AtMost 447 (IsMarkedBlock (standing_view s))
 HasMarksFor (Mkdir path) s = Unit {0}
 HasMarksFor (Create path) s = Unit {0}
 HasMarksFor (Read path offset count) s = Unit {0}
@@ -98,16 +98,16 @@ GoesOnByCall opened past who request reply s s' =
 abbrev pub PlannedCallsGoOn : Type 0
 PlannedCallsGoOn = (opened : ℕ) (past : Past) (s : Standing) (q : PoolState) (visible trash : Option Hash32) (who : ℕ) (request : Request) (plan : Planned)
     → IsPool s.pool → IsPlannable request → IsRequest request → IsReply plan.reply → HasMarksFor request s
-    → Fulfills s.keys.order (files_after s.keys past) request s.pool.nodes s.pool.pages plan → Answers s.keys.block who plan s.pool q visible trash
+    → Fulfills s.keys.order (files_after s.keys past) request s.pool.nodes s.pool.pages plan → CarriesOutPlan s.keys.block who plan s.pool q visible trash
     → AgreesWith opened past s → GoesOnByCall opened past who request plan.reply s (answered plan.counters q visible trash s)
 
 -- A call that leaves the table is entered, with a right reply.
 abbrev pub IdleCallsGoOn : Type 0
 IdleCallsGoOn = (opened : ℕ) (past : Past) (s : Standing) (q : PoolState) (who : ℕ) (request : Request) (reply : Reply)
     → IsRequest request → IsReply reply → after_reply (files_after s.keys past) request reply ≡ files_after s.keys past → FileReplies s.keys past request reply
-    → Entered who (seen s) (seen (with_pool q s)) → HoldsAlike s.pool q
+    → Entered who (standing_view s) (standing_view (with_pool q s)) → HoldsAlike s.pool q
     → AgreesWith opened past s → GoesOnByCall opened past who request reply s (with_pool q s)
 
 -- where no name is marked, a sync is answered
 abbrev pub UnmarkedSyncs : Type 0
-UnmarkedSyncs = (opened : ℕ) (past : Past) (s : Standing) → AgreesWith opened past s → ((n : Name) → marked ((seen s).cell n) ≡ false) → FileReplies s.keys past Sync Synced
+UnmarkedSyncs = (opened : ℕ) (past : Past) (s : Standing) → AgreesWith opened past s → ((n : Name) → marked ((standing_view s).cell n) ≡ false) → FileReplies s.keys past Sync Synced

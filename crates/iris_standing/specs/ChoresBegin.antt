@@ -20,7 +20,7 @@ use Rattle.iris_node.specs.Spelling.{spelling}
 use Rattle.iris_pool.specs.Changes.{HoldsAlike}
 use Rattle.iris_pool.specs.Pool.{PoolState}
 use Rattle.iris_pool.specs.View.{pool_view}
-use Rattle.iris_standing.specs.Standing.{Standing, with_pool, seen, AgreesWith}
+use Rattle.iris_standing.specs.Standing.{Standing, with_pool, standing_view, AgreesWith}
 
 -- what the pool says of the beginning of a put, and of a discard
 abbrev pub PutBegins : PoolState → PoolState → ℕ → ℕ → Name → Record → Bool → Type 0
@@ -33,7 +33,7 @@ DiscardBegins p q who since n crowded = (key : List ℕ) → Began n (begun_out 
 -- store.
 pub record IsTimely (opened : ℕ) (past : Past) (s : Standing) (who since : ℕ) (crowded : Bool) : Type 0 where
   pub last : opened + since ≡ length past
-  pub waits : IsChoreFor (file_rules s.keys) past (seen s) who (asked_by s.pool.desks who) crowded
+  pub waits : IsChoreFor (file_rules s.keys) past (standing_view s) who (asked_by s.pool.desks who) crowded
 
 -- a put begins of a cached node that is dirty, with its spelling
 abbrev pub NodePutsBegin : Type 0
@@ -46,6 +46,6 @@ PagePutsBegin = (opened : ℕ) (past : Past) (s : Standing) (p : PoolState) (who
     → held_page s.pool.pages (Block file place) ≡ Some h → h.dirty ≡ true → PutBegins s.pool p who since (Block file place) (written.Page h.version h.page) crowded → HoldsAlike s.pool p → AgreesWith opened past s → AgreesWith opened past (with_pool p s)
 
 -- a discard begins of a doomed name
-abbrev pub DiscardsBegin : Type 0
-DiscardsBegin = (opened : ℕ) (past : Past) (s : Standing) (p : PoolState) (who since : ℕ) (n : Name) (crowded : Bool) → IsTimely opened past s who since crowded
+abbrev pub DoomedDiscardsBegin : Type 0
+DoomedDiscardsBegin = (opened : ℕ) (past : Past) (s : Standing) (p : PoolState) (who since : ℕ) (n : Name) (crowded : Bool) → IsTimely opened past s who since crowded
     → is_doomed s.pool.desks n ≡ true → DiscardBegins s.pool p who since n crowded → p.nodes ≡ s.pool.nodes → p.pages ≡ s.pool.pages → AgreesWith opened past s → AgreesWith opened past (with_pool p s)

@@ -39,8 +39,8 @@ abbrev pub with_pool : PoolState → Standing → Standing
 with_pool p s = record s { pool = p }
 
 -- as the invariant sees it
-abbrev pub seen : Standing → View
-seen s = pool_view s.keys.block s.pool
+abbrev pub standing_view : Standing → View
+standing_view s = pool_view s.keys.block s.pool
 
 -- what is unfolded has this name
 abbrev pub is_named : Unfolded → Name → Bool
@@ -62,7 +62,7 @@ HasRootHash t s i x = IsSettled (held_node s.pool.nodes (name.Entry (id_of i))) 
 -- What a core keeps says of a history whose session opened with so many notes before it.
 pub record AgreesWith (opened : ℕ) (past : Past) (s : Standing) : Type 0 where
   -- marks, what is out, what is settled, and pins
-  pub agrees : Agrees (files s.keys) (file_rules s.keys) opened past (seen s)
+  pub agrees : Agrees (files s.keys) (file_rules s.keys) opened past (standing_view s)
   -- cache and resident blocks show the table, and next id and age are its own
   pub shows : IsShownBy s.keys.order (files_after s.keys past) s.pool.nodes s.pool.pages s.counters
   pub visible : HasRootHash (shown_after s.keys past) s 0 s.visible
@@ -70,11 +70,11 @@ pub record AgreesWith (opened : ℕ) (past : Past) (s : Standing) : Type 0 where
   -- every cached node is settled: hashes are made at once
   pub settled : (n : Name) (h : Held) → held_node s.pool.nodes n ≡ Some h → h.settled ≡ true
   -- the parent of a node that is being fetched is cached
-  pub parents : ParentsResident (files s.keys) (leads leads_to) past (seen s)
+  pub parents : ParentsResident (files s.keys) (leads leads_to) past (standing_view s)
   -- what is kept for a caller was got by it since its last call
-  pub evidence : Evidence (files s.keys) past (seen s)
+  pub evidence : Evidence (files s.keys) past (standing_view s)
   -- at most 512 blocks are marked
-  pub bound : AtMost 512 (IsMarkedBlock (seen s))
+  pub bound : AtMost 512 (IsMarkedBlock (standing_view s))
 
 -- the history is bad, or legal and agreed with
 abbrev pub StandsFor : ℕ → Past → Standing → Type 0

@@ -69,8 +69,8 @@ abbrev pub Withdraws : PoolState → PoolState → Name → Type 0
 Withdraws p q n = (key : List ℕ) → Withdrawn n (pool_view key p) (pool_view key q)
 
 -- and of a call that is entered
-abbrev pub Enters : PoolState → PoolState → ℕ → Type 0
-Enters p q who = (key : List ℕ) → Entered who (pool_view key p) (pool_view key q)
+abbrev pub EntersCall : PoolState → PoolState → ℕ → Type 0
+EntersCall p q who = (key : List ℕ) → Entered who (pool_view key p) (pool_view key q)
 
 -- a put is noted
 abbrev pub PutsGoOn : Type 0
@@ -113,24 +113,24 @@ FailedDiscardsLicense = (opened : ℕ) (past : Past) (s : Standing) (away : Away
 -- a licensed refusal is entered
 abbrev pub RefusalsGoOn : Type 0
 RefusalsGoOn = (opened : ℕ) (past : Past) (s : Standing) (q : PoolState) (who : ℕ) (request : Request) (cause : Cause) → IsRequest request → IsLicensed (file_rules s.keys) opened who request (Refused cause) past
-    → Enters s.pool q who → HoldsAlike s.pool q → GoesOnByNote opened past (Call who request (Refused cause)) s q
+    → EntersCall s.pool q who → HoldsAlike s.pool q → GoesOnByNote opened past (Call who request (Refused cause)) s q
 
 -- Both in one: a note, and the refusal after it, keep that the core stands. One pool is after the note, one after the call.
-abbrev pub RefusesAfter : ℕ → Past → Note → ℕ → Cause → Standing → PoolState → PoolState → Type 0
-RefusesAfter opened past note who cause s p q = (request : Request) → asked_by s.pool.desks who ≡ Some request → IsRequest request → HoldsAlike s.pool p → Enters p q who → HoldsAlike p q
+abbrev pub StandsByRefusal : ℕ → Past → Note → ℕ → Cause → Standing → PoolState → PoolState → Type 0
+StandsByRefusal opened past note who cause s p q = (request : Request) → asked_by s.pool.desks who ≡ Some request → IsRequest request → HoldsAlike s.pool p → EntersCall p q who → HoldsAlike p q
     → StandsFor opened past s → StandsFor opened (called opened who request (Refused cause) ∷ record { note = note; opened = opened } ∷ past) (with_pool q s)
 
 -- the call of a get that brings nothing is refused
-abbrev pub FruitlessGetsRefuse : Type 0
-FruitlessGetsRefuse = (opened : ℕ) (past : Past) (s : Standing) (p q : PoolState) (job : JobState) (o : pending.Out) (answer : Answer) → IsGetOut s job o
+abbrev pub GetsRefuseCalls : Type 0
+GetsRefuseCalls = (opened : ℕ) (past : Past) (s : Standing) (p q : PoolState) (job : JobState) (o : pending.Out) (answer : Answer) → IsGetOut s job o
     → AnswerBrings (block_key job.master) job.name job.expect answer brought.Nothing → Withdraws s.pool p job.name
-    → RefusesAfter opened past (got_note job answer) job.who (cause_by answer job.name) s p q
+    → StandsByRefusal opened past (got_note job answer) job.who (cause_by answer job.name) s p q
 
 -- the call of a crowded put, or of a crowded discard, that failed is refused
-abbrev pub FailedPutsRefuse : Type 0
-FailedPutsRefuse = (opened : ℕ) (past : Past) (s : Standing) (p q : PoolState) (put : PutState) (o : pending.Out) → IsPutOut s put o → o.crowded ≡ true
-    → PutEnds s.pool p put.name false → RefusesAfter opened past (put_note put false) put.who (StoreFailed put.name) s p q
+abbrev pub PutsRefuseCalls : Type 0
+PutsRefuseCalls = (opened : ℕ) (past : Past) (s : Standing) (p q : PoolState) (put : PutState) (o : pending.Out) → IsPutOut s put o → o.crowded ≡ true
+    → PutEnds s.pool p put.name false → StandsByRefusal opened past (put_note put false) put.who (StoreFailed put.name) s p q
 
-abbrev pub FailedDiscardsRefuse : Type 0
-FailedDiscardsRefuse = (opened : ℕ) (past : Past) (s : Standing) (p q : PoolState) (away : Away) (o : pending.Out) → IsOutAs s.pool.desks away.who (discard_task away) o → o.crowded ≡ true
-    → DiscardEnds s.pool p away.name false → RefusesAfter opened past (discard_note away false) away.who (StoreFailed away.name) s p q
+abbrev pub DiscardsRefuseCalls : Type 0
+DiscardsRefuseCalls = (opened : ℕ) (past : Past) (s : Standing) (p q : PoolState) (away : Away) (o : pending.Out) → IsOutAs s.pool.desks away.who (discard_task away) o → o.crowded ≡ true
+    → DiscardEnds s.pool p away.name false → StandsByRefusal opened past (discard_note away false) away.who (StoreFailed away.name) s p q

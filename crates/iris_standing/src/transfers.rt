@@ -1,8 +1,8 @@
 //! Laws of transfers: how puts and discards begin, and of the notes that end puts, discards and gets.
 
-ghost use Rattle.iris_standing.specs.ChoresBegin.{DiscardsBegin, NodePutsBegin, PagePutsBegin};
+ghost use Rattle.iris_standing.specs.ChoresBegin.{DoomedDiscardsBegin, NodePutsBegin, PagePutsBegin};
 ghost use Rattle.iris_standing.specs.GetsKept.{NodesAreKept, PagesAreKept};
-ghost use Rattle.iris_standing.specs.Transfers.{DiscardsGoOn, FailedDiscardsLicense, FailedDiscardsRefuse, FailedPutsLicense, FailedPutsRefuse, FruitlessGetsGoOn, FruitlessGetsLicense, FruitlessGetsRefuse, NotesStand, PutsGoOn, RefusalsGoOn};
+ghost use Rattle.iris_standing.specs.Transfers.{DiscardsGoOn, FailedDiscardsLicense, DiscardsRefuseCalls, FailedPutsLicense, PutsRefuseCalls, FruitlessGetsGoOn, FruitlessGetsLicense, GetsRefuseCalls, NotesStand, PutsGoOn, RefusalsGoOn};
 
 /// A put begins, of a node or of a block.
 pub fn puts_begin()
@@ -12,7 +12,7 @@ pub fn puts_begin()
 
 /// A discard begins.
 pub fn discards_begin()
-    ensures { DiscardsBegin }
+    ensures { DoomedDiscardsBegin }
 {}
 
 /// A lawful note with which what is kept agrees keeps that a core stands.
@@ -49,9 +49,9 @@ pub fn refusals_go_on()
 
 /// A transfer that licenses the refusal of its call is noted, and that call is refused.
 pub fn failures_refuse()
-    ensures gets { FruitlessGetsRefuse }
-    ensures puts { FailedPutsRefuse }
-    ensures discards { FailedDiscardsRefuse }
+    ensures gets { GetsRefuseCalls }
+    ensures puts { PutsRefuseCalls }
+    ensures discards { DiscardsRefuseCalls }
 {}
 
 /// A get is noted, and what it brings is kept: a node, or a page.
