@@ -7,7 +7,7 @@ use Rattle.iris_name.specs.declared.request.Request.TheVariants.{Mkdir, Read, Re
 use Rattle.iris_pool.specs.Pool.{PoolState}
 use Rattle.iris_requests.specs.declared.planned.Counters.{Counters}
 use Rattle.iris_standing.specs.Calls.{HasMarksFor, answered}
-use Rattle.iris_standing.specs.Standing.{Standing, seen}
+use Rattle.iris_standing.specs.Standing.{Standing, standing_view}
 
 module _ (s : Standing) (q : PoolState) (counters : Counters) (x : Hash32) where
   -- a hash that settling told is kept, and else the one before
@@ -18,10 +18,10 @@ module _ (s : Standing) (q : PoolState) (counters : Counters) (x : Hash32) where
   untold_stays = refl
 
   -- a write and a new length ask that fewer than 448 blocks are marked, no other request does
-  write_asks : HasMarksFor (Write [] 0 []) s → AtMost 447 (IsMarkedBlock (seen s))
+  write_asks : HasMarksFor (Write [] 0 []) s → AtMost 447 (IsMarkedBlock (standing_view s))
   write_asks h = h
 
-  length_asks : HasMarksFor (Resize [] 1) s → AtMost 447 (IsMarkedBlock (seen s))
+  length_asks : HasMarksFor (Resize [] 1) s → AtMost 447 (IsMarkedBlock (standing_view s))
   length_asks h = h
 
   read_does_not : HasMarksFor (Read [] 0 1) s

@@ -1,5 +1,5 @@
 -- What is out as which task, the causes of refusals, and the parent that an empty cache names, by small cases.
-use Rattle.std.proofs.Common.{◌≡◌, ℕ, [], ◌∷◌, false, Option, Some, None, refl, ap, ◌∙◌, arith}
+use Rattle.std.proofs.Common.{◌≡◌, ℕ, [], ◌∷◌, false, Some, None, refl, ap, ◌∙◌, arith}
 use Rattle.std.proofs.lemmas.Option.{some_pair_parts}
 use Rattle.iris_cache.specs.Resident.{Resident}
 use Rattle.iris_desk.specs.AtDesk.{empty_desk}

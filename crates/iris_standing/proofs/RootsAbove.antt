@@ -13,49 +13,20 @@ use Rattle.iris_name.specs.declared.name.Name.{Name}
 use Rattle.iris_name.specs.declared.name.Name.TheVariants.{Entry}
 use Rattle.iris_name.specs.NameLaws.{same_name_equiv, same_name-true}
 use Rattle.iris_name.specs.Names.{same_name}
-use Rattle.iris_node.specs.Trees.{Shown, IsAbove, IsParent, IsRootName, IsTree}
-use Rattle.iris_node.specs.Unfolded.{Unfolded, Absent, Folder, Leaf, Even, Split, Stored, id_of}
+use Rattle.iris_node.specs.Trees.{Shown, IsParent, IsRootName, IsTree}
+use Rattle.iris_node.specs.Unfolded.{id_of}
 use Rattle.iris_standing.proofs.CachedNodes.{cached_at}
+use Rattle.iris_treepaths.proofs.Sizes.{parent_larger, size_in}
 use Rattle.iris_treepaths.specs.Rows.{IsRooted}
 use Rattle.iris_upkeep.specs.Marks.{IsAtOrBelow}
 
--- how much lies at and below an unfolded node
-size : Unfolded → ℕ
-size (Folder id name less more inside) = suc (size less + size more + size inside)
-size (Leaf id name less more length counter versions) = suc (size less + size more + size versions)
-size (Split file level index low high) = suc (size low + size high)
-size Absent = 0
-size (Even version) = 0
-size (Stored version bytes) = 0
-
-size_above : (u w : Unfolded) → IsAbove u w → size w < size u
-unfolding size
-size_above (Folder id name less more inside) w (inl e) = let a = ap size e in omega (arith, a)
-size_above (Folder id name less more inside) w (inr (inl e)) = let a = ap size e in omega (arith, a)
-size_above (Folder id name less more inside) w (inr (inr e)) = let a = ap size e in omega (arith, a)
-size_above (Leaf id name less more length counter versions) w (inl e) = let a = ap size e in omega (arith, a)
-size_above (Leaf id name less more length counter versions) w (inr (inl e)) = let a = ap size e in omega (arith, a)
-size_above (Leaf id name less more length counter versions) w (inr (inr e)) = let a = ap size e in omega (arith, a)
-size_above (Split file level index low high) w (inl e) = let a = ap size e in omega (arith, a)
-size_above (Split file level index low high) w (inr e) = let a = ap size e in omega (arith, a)
-size_above Absent w h = absurd h
-size_above (Even v) w h = absurd h
-size_above (Stored v bytes) w h = absurd h
-
-size_in : Option Unfolded → ℕ
-size_in None = 0
-size_in (Some u) = size u
-
+-- how much lies at and below what stands for a name
 size_at : Shown → Name → ℕ
 size_at t n = size_in (t n)
 
 child_size : (t : Shown) (p n : Name) → IsTree t → IsParent t p n → size_at t n < size_at t p
-unfolding size_at size_in
-child_size t p n tree par =
-    let lt = size_above par.parent par.child par.above in
-    let a = ap size_in (tree.below p n par.parent par.child par.live par.above par.named) in
-    let b = ap size_in par.live in
-    omega (arith, lt, a, b)
+unfolding size_at
+child_size t p n tree par = parent_larger t tree p n par
 
 -- all that stands for names of a list
 most : Shown → List Name → ℕ
