@@ -28,3 +28,5 @@ pub mod Leaving
 pub mod LeavingPages
 pub mod AdmittedNode
 mod ExamplesOfLanding
+mod ExamplesOfCounts
+pub mod SummedMarks

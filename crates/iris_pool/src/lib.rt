@@ -4,6 +4,7 @@
 pub mod asking;
 mod by_name;
 pub mod chores;
+pub mod counts;
 pub mod gets;
 pub mod going;
 pub mod landing;
