@@ -30,3 +30,5 @@ pub mod AdmittedNode
 mod ExamplesOfLanding
 mod ExamplesOfCounts
 pub mod SummedMarks
+pub mod ListedNames
+pub mod CountedMarks

@@ -14,5 +14,5 @@ pub mod pool;
 mod seats;
 pub mod settling;
 
-pub use laws::cells_land;
+pub use laws::{cells_land, marks_are_counted};
 pub use pool::Pool;
