@@ -10,6 +10,7 @@ pub mod Ended
 pub mod Begun
 pub mod Brought
 pub mod Entering
+pub mod AskedFirst
 pub mod Bringing
 mod ExamplesOfPools
 pub mod EndsOver
