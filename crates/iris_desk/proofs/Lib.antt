@@ -3,6 +3,7 @@
 -- Seats: a list of desks of which one changes.
 -- OutOf: what is out for a name is out at one desk, and the look-ups of all desks.
 -- Keeping: what all desks keep is kept by each call.
+-- DoomedCounts: how many doomed names are of some kind, after each call.
 -- LookingUp: the laws.
 -- Examples: desks worked out by hand.
 pub mod OutLists
@@ -10,5 +11,6 @@ pub mod OneDesk
 pub mod Seats
 pub mod OutOf
 pub mod Keeping
+pub mod DoomedCounts
 pub mod LookingUp
 pub mod Examples

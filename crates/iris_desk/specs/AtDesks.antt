@@ -1,7 +1,8 @@
 -- What a contract sees of all desks, and the words on them.
 use Rattle.std.specs.Prelude.{ℕ, ◌≡◌, ◌≤◌, ◌==◌, Bool, false, if◌then◌else◌, List, length, map, All, Option, Some, slice_get, find}
 use Rattle.std.specs.Option.{option_map, option_and_then, option_map_or}
-use Rattle.std.specs.List.{list_any, flat_map, enumerate_from, IsDistinct}
+use Rattle.std.specs.List.{list_any, count_by, flat_map, enumerate_from, IsDistinct}
+use Rattle.iris_history.specs.Kept.{is_block}
 use Rattle.iris_name.specs.Names.{same_name}
 use Rattle.iris_name.specs.declared.name.Name.{Name}
 use Rattle.iris_name.specs.declared.request.Request.{Request}
@@ -57,7 +58,8 @@ pub record AreDesksSound (d : DesksState) : Type 0 where
   -- each name is doomed once
   pub once : IsDistinct same_name d.doomed
 
--- What all desks keep in their fields: room for so many names more to doom.
-pub record AreDesksKept (d : DesksState) (free : ℕ) : Type 0 where
+-- What all desks keep in their fields: room for so many names more to doom, and how many of the doomed names are blocks.
+pub record AreDesksKept (d : DesksState) (free blocks : ℕ) : Type 0 where
   pub sound : AreDesksSound d
   pub room : d.room ≤ free
+  pub counted : count_by is_block d.doomed ≡ blocks

@@ -1,8 +1,9 @@
 //! The desks of all callers, and the doomed names.
 
-ghost use Rattle.std.specs.Prelude.{ℕ, ◌≡◌, ◌≤◌, ◌<◌, ◌+◌, true, false, Some, None, IfSome, IfNone, IfOk, OnSome, OnOk, OnErr, length, map, replicate, if◌then◌else◌};
+ghost use Rattle.std.specs.Prelude.{ℕ, ◌≡◌, ◌≤◌, ◌<◌, ◌+◌, ◌&&◌, true, false, Some, None, IfSome, IfNone, IfOk, OnSome, OnOk, OnErr, count_by, length, map, replicate, if◌then◌else◌};
 ghost use Rattle.std.specs.Option.{option_copied, option_map};
 ghost use Rattle.std.specs.List.{IsDistinct};
+ghost use Rattle.iris_history.specs.Kept.{is_block};
 ghost use Rattle.iris_name.specs.Names.{same_name};
 ghost use Rattle.iris_name.specs.declared.name.Name.{Name as SpecName};
 ghost use Rattle.iris_desk.specs.Outs.{FitsDoing};
@@ -24,6 +25,8 @@ pub const CALLERS: usize = 17;
 pub struct Desks {
     desks: Vec<Desk>,
     doomed: IndexSet<Name>,
+    // How many of `doomed` are blocks.
+    doomed_blocks: usize,
     // How many names more are sure to fit into `doomed`.
     room: u32,
 }
@@ -39,7 +42,7 @@ impl Model for Desks {
 
     ghost invariant = { λ a. AreDesksKept
         (record { desks = a.desks.items; doomed = a.doomed.keys; room = a.room })
-        (spare a.doomed) };
+        (spare a.doomed) a.doomed_blocks };
 }
 
 impl Desks {
@@ -52,6 +55,7 @@ impl Desks {
         Ok(Desks {
             desks,
             doomed: IndexSet::new(alloc),
+            doomed_blocks: 0,
             room: 0,
         })
     }
@@ -178,7 +182,8 @@ impl Desks {
         ensures room { self.old.room ≤ self.new.room + 1 }
         ensures err { OnErr result (self.new ≡ self.old) }
     {
-        self.doomed.insert(*name)?;
+        let new = self.doomed.insert(*name)?;
+        self.doomed_blocks = with_doomed(self.doomed_blocks, &self.doomed, name, new);
         self.room = self.room.saturating_sub(1);
         Ok(())
     }
@@ -207,7 +212,10 @@ impl Desks {
         ensures room { self.old.room ≤ self.new.room + 1 }
     {
         match self.doomed.insert(*name) {
-            Ok(_) => self.room -= 1,
+            Ok(new) => {
+                self.doomed_blocks = with_doomed(self.doomed_blocks, &self.doomed, name, new);
+                self.room -= 1;
+            }
             Err(_) => unreachable!(),
         }
     }
@@ -221,7 +229,8 @@ impl Desks {
             (if is_doomed self.old name.now then 1 else 0) ≡ length self.old.doomed }
         ensures room { self.old.room ≤ self.new.room }
     {
-        self.doomed.swap_remove(name);
+        let gone = self.doomed.swap_remove(name);
+        self.doomed_blocks = without_undoomed(self.doomed_blocks, name, gone);
     }
 
     /// The doomed names, each once and in an order that is left open.
@@ -230,6 +239,13 @@ impl Desks {
         ensures once { IsDistinct same_name self.now.doomed }
     {
         self.doomed.as_slice()
+    }
+
+    /// How many of the doomed names are blocks. It goes over none.
+    pub fn doomed_blocks(&self) -> usize
+        ensures { result ≡ count_by is_block self.now.doomed }
+    {
+        self.doomed_blocks
     }
 
     /// Whether a name is doomed, by one look-up.
@@ -258,4 +274,37 @@ fn touch_at_each(desks: &mut [Desk], name: &Name)
     for desk in desks.iter_mut() {
         desk.touch(name);
     }
+}
+
+// How many of the doomed names are blocks, once a name is doomed that may be new among them.
+fn with_doomed(blocks: usize, doomed: &IndexSet<Name>, name: &Name, new: bool) -> usize
+    requires { blocks ≤ length doomed.now.keys }
+    ensures { result ≡ blocks + (if new && is_block name.now then 1 else 0) }
+{
+    let most = doomed.len();
+    prove!(blocks <= most);
+    if new && is_block(name) {
+        blocks + 1
+    } else {
+        blocks
+    }
+}
+
+// How many of the doomed names are blocks, once a name is gone that may have been one of them.
+fn without_undoomed(blocks: usize, name: &Name, gone: bool) -> usize
+    requires { (gone && is_block name.now) ≡ true → 0 < blocks }
+    ensures { result + (if gone && is_block name.now then 1 else 0) ≡ blocks }
+{
+    if gone && is_block(name) {
+        blocks - 1
+    } else {
+        blocks
+    }
+}
+
+// Whether a name is of a block.
+fn is_block(name: &Name) -> bool
+    ensures { result ≡ is_block name.now }
+{
+    matches!(name, Name::Block { .. })
 }

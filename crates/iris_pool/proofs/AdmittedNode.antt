@@ -1,14 +1,13 @@
 -- A node that no store has yet comes into the pool.
-use Rattle.std.proofs.Common.{◌≡◌, ◌⊎◌, inl, inr, ◌&&◌, ℕ, Bool, true, false, not, cond, List, Option, Some, None, refl, ap, sym, ◌∙◌, subst, true≢false, is_some}
+use Rattle.std.proofs.Common.{◌≡◌, ◌⊎◌, inl, inr, ℕ, Bool, true, false, not, cond, List, Option, Some, None, refl, ap, sym, ◌∙◌, true≢false, is_some}
 use Rattle.std.specs.List.{count_by, list_any}
 use Rattle.std.specs.Map.{lookup, values_of}
 use Rattle.iris_cache.specs.declared.held.Held.{Held}
 use Rattle.iris_cache.specs.Held.{dirtied_node, is_child, kid_more, newcomer_node, points, unpinned_node}
 use Rattle.iris_cache.specs.Resident.{Resident, Updates, children, has_room, held_node, map_if}
 use Rattle.iris_desk.specs.AtDesks.{out_of}
-use Rattle.iris_desk.specs.declared.out.Out as pending
 use Rattle.iris_name.specs.Names.{same_name}
-use Rattle.iris_name.specs.NameLaws.{same_name-true, same_name-refl}
+use Rattle.iris_name.specs.NameLaws.{same_name-true}
 use Rattle.iris_name.specs.declared.name.Name.{Name}
 use Rattle.iris_node.specs.Nodes.{name_of}
 use Rattle.iris_node.specs.declared.node.Node.{Node}

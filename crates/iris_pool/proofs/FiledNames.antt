@@ -1,10 +1,10 @@
 -- Names that are filed one after the other, and what is out and touched desk by desk.
-use Rattle.std.proofs.Common.{◌≡◌, ◌⊎◌, inl, inr, ◌||◌, ◌&&◌, ◌+◌, ◌<◌, ◌≤◌, ◌==◌, ℕ, Bool, true, false, cond, List, [], ◌∷◌, map, take, Option, Some, None, refl, ap, sym, ◌∙◌, subst, arith, length, get_or, slice_get, true≢false, is_some, eq-eqb}
+use Rattle.std.proofs.Common.{◌≡◌, inl, inr, ◌||◌, ◌&&◌, ◌+◌, ◌<◌, ◌≤◌, ◌==◌, ℕ, Bool, true, false, cond, List, [], ◌∷◌, map, take, Option, Some, None, refl, ap, sym, ◌∙◌, arith, length, get_or, slice_get, true≢false, is_some, eq-eqb}
 use mathlib.Core.Bool.{beq}
 use Rattle.std.specs.Prelude.{nat_lt}
 use Rattle.std.specs.Option.{option_map, option_and_then}
-use Rattle.std.specs.Map.{lookup, keys_of}
-use Rattle.std.specs.List.{list_any, IsDistinct}
+use Rattle.std.specs.Map.{lookup}
+use Rattle.std.specs.List.{list_any}
 use Rattle.std.proofs.lemmas.Bool.{eqb-true, cases_lt, lt-ltb, le-ltb}
 use Rattle.std.proofs.lemmas.List.{take_all, length-map}
 use Rattle.std.proofs.lemmas.Option.{slice_get_within, slice_get_read, slice_get-map, some_pair_parts}
@@ -12,15 +12,14 @@ use Rattle.iris_name.specs.Names.{same_name}
 use Rattle.iris_name.specs.NameLaws.{same_name_equiv, same_name-true}
 use Rattle.iris_name.specs.declared.name.Name.{Name}
 use Rattle.iris_cache.specs.declared.draft.Change.{Change}
-use Rattle.iris_cache.specs.Resident.{map_if}
 use Rattle.iris_node.specs.declared.node.Node.{Node}
 use Rattle.iris_cache.proofs.Drafts.{among, among-more, among-all, more-key}
 use Rattle.iris_desk.specs.AtDesk.{DeskState, touched_desk}
 use Rattle.iris_desk.specs.AtDesks.{DesksState, desk_at, asked_by, keeps_for, out_for, out_of, is_doomed, AreDesksSound}
 use Rattle.iris_desk.specs.declared.out.Out.{Out}
-use Rattle.iris_desk.specs.Outs.{touched_out, out_in}
+use Rattle.iris_desk.specs.Outs.{out_in}
 use Rattle.iris_desk.specs.Laws.{TouchesOut}
-use Rattle.iris_desk.proofs.LookingUp.{out_is_at, touch_looks}
+use Rattle.iris_desk.proofs.LookingUp.{out_is_at}
 use Rattle.iris_desk.proofs.OutLists.{names_touched}
 use Rattle.iris_pool.specs.Filing.{doomed_by, comes_or_goes, touched_so, FilesNames, FilesOne, is_out_at, names_on_desk, names_at}
 

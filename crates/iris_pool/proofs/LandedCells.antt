@@ -1,16 +1,15 @@
 -- What the invariant sees of a name once drafts are made is what cache, blocks and desks make of it.
-use Rattle.std.proofs.Common.{◌≡◌, ℕ, Bool, true, false, List, Option, Some, None, refl, ap, sym, ◌∙◌}
+use Rattle.std.proofs.Common.{◌≡◌, Bool, Option, Some, None, refl, ap, ◌∙◌}
 use Rattle.std.specs.Option.{option_map}
 use Rattle.iris_blocks.specs.declared.held.PageHeld.{PageHeld}
 use Rattle.iris_blocks.specs.Paged.{held_page}
 use Rattle.iris_cache.specs.declared.held.Held.{Held}
 use Rattle.iris_cache.specs.Resident.{held_node}
 use Rattle.iris_desk.specs.AtDesks.{is_doomed}
-use Rattle.iris_invariant.specs.Agrees.{Cell, Out}
+use Rattle.iris_invariant.specs.Agrees.{Out}
 use Rattle.iris_invariant.specs.Cells.{cell_of, cell_of_page, held_touched, page_touched, redoomed, touched_if}
-use Rattle.iris_name.specs.declared.name.Name.{Name}
 use Rattle.iris_name.specs.declared.name.Name.TheVariants.{Entry, Part, Block}
-use Rattle.iris_pool.specs.Landing.{CellsLand, LandsIn, SameButPins, SamePageButPins}
+use Rattle.iris_pool.specs.Landing.{CellsLand, SameButPins, SamePageButPins}
 use Rattle.iris_pool.specs.View.{out_seen}
 
 -- pins change nothing of a cell, of what is doomed and of what is touched

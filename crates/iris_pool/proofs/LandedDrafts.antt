@@ -1,5 +1,5 @@
 -- What drafts leave of the pool, from what each step of `apply` makes of nodes, pages, desks and pins.
-use Rattle.std.proofs.Common.{◌≡◌, ◌⊎◌, inl, inr, ◌||◌, ◌&&◌, ℕ, Bool, true, false, not, cond, List, Option, Some, None, refl, ap, sym, ◌∙◌, subst, true≢false, is_some}
+use Rattle.std.proofs.Common.{◌≡◌, ◌||◌, ◌&&◌, ℕ, Bool, true, false, not, List, Option, Some, None, refl, ap, sym, ◌∙◌, subst, true≢false, is_some}
 use Rattle.std.specs.List.{list_any}
 use Rattle.std.specs.Option.{option_map}
 use Rattle.std.proofs.lemmas.Option.{some_pair_parts}
@@ -27,7 +27,7 @@ use Rattle.iris_node.specs.Nodes.{name_of}
 use Rattle.iris_node.specs.Trees.{IsNodeName}
 use Rattle.iris_node.specs.declared.node.Node.{Node}
 use Rattle.iris_node.specs.declared.node.Node.TheVariants as node
-use Rattle.iris_pool.specs.Filing.{FilesNames, FilesNodes, FilesPages, GetsPagePins, GetsPins, PinsKept, TouchesThere, comes_or_goes, doomed_by, is_held_after, is_page_held_after, is_touched_in, is_touched_there, page_touched_in, touched_in, touched_so}
+use Rattle.iris_pool.specs.Filing.{FilesNames, FilesNodes, FilesPages, GetsPagePins, GetsPins, PinsKept, TouchesThere, comes_or_goes, doomed_by, is_held_after, is_page_held_after, is_touched_there, page_touched_in, touched_in, touched_so}
 use Rattle.iris_pool.specs.Landing.{LandsIn, SameButPins, SamePageButPins}
 use Rattle.iris_pool.specs.Pool.{PoolState, IsAbsentIn, IsPresent, has_place}
 use Rattle.iris_pool.specs.View.{IsPool, doing_by, out_by, out_seen, is_pinned_for, pinned_node_in, pinned_page_in}

@@ -1,35 +1,27 @@
 -- A node or a page leaves the pool: what is seen of it, and that the pool stays one.
-use Rattle.std.proofs.Common.{◌≡◌, ◌⊎◌, inl, inr, ◌+◌, ◌<◌, ◌≤◌, ◌==◌, ◌^◌, ℕ, Bool, true, false, not, cond, List, Option, Some, None, refl, ap, sym, ◌∙◌, subst, arith, true≢false, is_some, slice_get, length}
-use Rattle.std.specs.Prelude.{IsSome, IsSomeAnd, bit_and, nat_lt}
+use Rattle.std.proofs.Common.{◌≡◌, inl, inr, ◌==◌, ◌^◌, ℕ, Bool, true, false, not, cond, List, Option, Some, None, refl, ap, sym, ◌∙◌, subst, arith, true≢false, is_some}
+use Rattle.std.specs.Prelude.{IsSome, IsSomeAnd, nat_lt}
 use Rattle.std.specs.Int.Bits.{and_zero_l}
-use Rattle.std.specs.List.{list_any}
-use Rattle.std.specs.Option.{option_map}
 use Rattle.std.proofs.lemmas.Bool.{cases_lt, lt-ltb}
-use Rattle.std.proofs.lemmas.Option.{slice_get_within}
 use Rattle.iris_blocks.specs.declared.held.PageHeld.{PageHeld}
-use Rattle.iris_blocks.specs.Held.{page_stay_by, page_stay_of}
-use Rattle.iris_blocks.specs.Paged.{Paged, held_page, IsBlock, ArePagesSound}
+use Rattle.iris_blocks.specs.Held.{page_stay_by}
+use Rattle.iris_blocks.specs.Paged.{held_page, IsBlock}
 use Rattle.iris_cache.specs.declared.held.Held.{Held}
-use Rattle.iris_cache.specs.declared.held.Stay.{Stay}
 use Rattle.iris_cache.specs.Held.{kid_less, points, stay_by, stay_of}
-use Rattle.iris_cache.specs.Idle.{CanGo, is_free}
-use Rattle.iris_cache.specs.Resident.{Resident, IsSoundCache, held_node, has_room, map_if, resident_parent}
-use Rattle.iris_desk.specs.AtDesks.{DesksState, keeps_for, out_of, is_doomed}
-use Rattle.iris_desk.specs.declared.out.Doing.TheVariants.{Get}
+use Rattle.iris_cache.specs.Resident.{Resident, IsSoundCache, held_node, map_if, resident_parent}
+use Rattle.iris_desk.specs.AtDesks.{out_of, is_doomed}
 use Rattle.iris_desk.specs.declared.out.Out as pending
-use Rattle.iris_invariant.specs.Agrees.{Out, Cell, View}
-use Rattle.iris_invariant.specs.Cells.{Tied, TiedPage, cell_at, cell_of, cell_of_page, dirty_in, dirty_page_in, has_pin}
-use Rattle.iris_invariant.specs.Events.{Elsewhere, Evicted, SamePins}
+use Rattle.iris_invariant.specs.Agrees.{Out}
+use Rattle.iris_invariant.specs.Cells.{cell_at, cell_of, dirty_in, has_pin}
+use Rattle.iris_invariant.specs.Events.{Elsewhere, Evicted}
 use Rattle.iris_name.specs.Names.{same_name}
-use Rattle.iris_name.specs.NameLaws.{same_name_equiv, same_name-true, same_name-refl}
+use Rattle.iris_name.specs.NameLaws.{same_name-true, same_name-refl}
 use Rattle.iris_name.specs.declared.name.Name.{Name}
 use Rattle.iris_name.specs.declared.name.Name.TheVariants.{Entry, Part, Block}
-use Rattle.iris_node.specs.Nodes.{name_of}
-use Rattle.iris_node.specs.Trees.{IsNodeName}
-use Rattle.iris_pool.specs.Changes.{NodeGoes, PageGoes}
-use Rattle.iris_pool.specs.Going.{CanLeave, PageCanLeave, IsInUse}
-use Rattle.iris_pool.specs.Pool.{PoolState, IsAbsentIn, IsPresent, has_place}
-use Rattle.iris_pool.specs.View.{IsPool, out_by, out_seen, is_pinned_for, pinned_node_in, pinned_page_in, pool_view}
+use Rattle.iris_pool.specs.Changes.{NodeGoes}
+use Rattle.iris_pool.specs.Going.{CanLeave}
+use Rattle.iris_pool.specs.Pool.{PoolState}
+use Rattle.iris_pool.specs.View.{IsPool, out_by, out_seen, is_pinned_for, pinned_node_in, pool_view}
 use Rattle.iris_pool.proofs.LandedDrafts.{name_of_node}
 use Rattle.iris_pool.proofs.StayingPool.{KeepsFlags, keeps_pool, same_places}
 

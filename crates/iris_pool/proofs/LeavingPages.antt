@@ -1,17 +1,17 @@
 -- A page leaves the pool: what is seen of it, and that the pool stays one.
-use Rattle.std.proofs.Common.{◌≡◌, ℕ, Bool, true, false, cond, List, Option, Some, None, refl, ap, sym, ◌∙◌, subst, true≢false, is_some}
+use Rattle.std.proofs.Common.{◌≡◌, ℕ, Bool, true, false, cond, List, Option, Some, None, refl, ap, sym, ◌∙◌, true≢false, is_some}
 use Rattle.std.specs.Prelude.{nat_lt}
 use Rattle.std.specs.List.{list_any}
 use Rattle.iris_blocks.specs.declared.held.PageHeld.{PageHeld}
 use Rattle.iris_blocks.specs.Held.{page_stay_of}
-use Rattle.iris_blocks.specs.Paged.{Paged, held_page, has_page_room, IsBlock}
+use Rattle.iris_blocks.specs.Paged.{Paged, held_page}
 use Rattle.iris_cache.specs.Resident.{held_node}
-use Rattle.iris_desk.specs.AtDesks.{keeps_for, out_of, is_doomed}
+use Rattle.iris_desk.specs.AtDesks.{out_of, is_doomed}
 use Rattle.iris_desk.specs.declared.out.Doing.TheVariants.{Get}
 use Rattle.iris_desk.specs.declared.out.Out as pending
 use Rattle.iris_invariant.specs.Agrees.{Out}
 use Rattle.iris_invariant.specs.Cells.{TiedPage, cell_at, dirty_page_in}
-use Rattle.iris_invariant.specs.Events.{Elsewhere, Evicted}
+use Rattle.iris_invariant.specs.Events.{Evicted}
 use Rattle.iris_name.specs.Names.{same_name}
 use Rattle.iris_name.specs.NameLaws.{same_name-true, same_name-refl}
 use Rattle.iris_name.specs.declared.name.FileId.{FileId}
@@ -19,7 +19,7 @@ use Rattle.iris_name.specs.declared.name.Name.{Name}
 use Rattle.iris_name.specs.declared.name.Name.TheVariants.{Entry, Part, Block}
 use Rattle.iris_pool.specs.Changes.{PageGoes}
 use Rattle.iris_pool.specs.Going.{PageCanLeave}
-use Rattle.iris_pool.specs.Pool.{PoolState, IsAbsentIn, IsPresent, has_place}
+use Rattle.iris_pool.specs.Pool.{PoolState, IsAbsentIn, has_place}
 use Rattle.iris_pool.specs.View.{IsPool, out_by, out_seen, is_pinned_for, pinned_page_in, pool_view}
 use Rattle.iris_pool.proofs.Leaving.{held_there, no_pin, page_stay_parts}
 

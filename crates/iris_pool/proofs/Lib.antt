@@ -10,6 +10,7 @@ pub mod Ended
 pub mod Begun
 pub mod Brought
 pub mod Entering
+pub mod AskedFirst
 pub mod Bringing
 mod ExamplesOfPools
 pub mod EndsOver
@@ -28,3 +29,7 @@ pub mod Leaving
 pub mod LeavingPages
 pub mod AdmittedNode
 mod ExamplesOfLanding
+mod ExamplesOfCounts
+pub mod SummedMarks
+pub mod ListedNames
+pub mod CountedMarks

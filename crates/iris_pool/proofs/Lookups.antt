@@ -1,13 +1,11 @@
 -- What look-ups answer, as the code reads them.
 use Rattle.std.proofs.Common.{◌≡◌, ℕ, Bool, true, false, List, Option, Some, None, refl, ap, sym, ◌∙◌, subst, true≢false, is_some, Bor}
 use Rattle.std.specs.Option.{option_copied}
-use Rattle.iris_blocks.specs.declared.held.PageHeld.{PageHeld}
 use Rattle.iris_blocks.specs.Changes.{lent}
 use Rattle.iris_blocks.specs.Paged.{Paged, held_page, IsBlock, ArePagesSound}
 use Rattle.iris_cache.specs.declared.held.Held.{Held}
 use Rattle.iris_cache.specs.Resident.{Resident, IsSoundCache, held_node}
 use Rattle.iris_name.specs.declared.name.Name.{Name}
-use Rattle.iris_node.specs.Nodes.{name_of}
 use Rattle.iris_pool.proofs.LandedDrafts.{name_of_node, none_by}
 
 pub copied_some : {A : Type 0} (o : Option (Bor A)) → is_some (option_copied o) ≡ is_some o

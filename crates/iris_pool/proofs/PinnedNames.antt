@@ -1,18 +1,18 @@
 -- Pins of callers, name by name.
-use Rattle.std.proofs.Common.{◌≡◌, ◌≢◌, ◌⊎◌, inl, inr, ◌||◌, ◌&&◌, ◌+◌, ◌<◌, ◌≤◌, ◌==◌, ◌^◌, ℕ, Bool, true, false, cond, List, [], take, Option, Some, None, refl, ap, sym, ◌∙◌, subst, arith, true≢false, is_some, slice_get, length, nat_lt}
+use Rattle.std.proofs.Common.{◌≡◌, ◌≢◌, ◌⊎◌, inl, inr, ◌||◌, ◌&&◌, ◌+◌, ◌≤◌, ◌==◌, ◌^◌, ℕ, Bool, true, false, List, take, Option, Some, None, refl, ap, sym, ◌∙◌, subst, arith, true≢false, slice_get, length, nat_lt}
 use Rattle.std.specs.Prelude.{bit_or}
 use Rattle.std.specs.Option.{option_map_or}
 use Rattle.std.specs.List.{list_any}
-use Rattle.std.proofs.lemmas.Bool.{cases_lt, eqb-true, lt-ltb, le-ltb}
+use Rattle.std.proofs.lemmas.Bool.{cases_lt, lt-ltb, le-ltb}
 use Rattle.std.proofs.lemmas.Bool.Decides.{eqb_tells}
 use Rattle.std.proofs.lemmas.List.{take_all}
 use Rattle.std.proofs.lemmas.Option.{slice_get_within}
 use Rattle.iris_blocks.specs.declared.held.PageHeld.{PageHeld}
 use Rattle.iris_blocks.specs.Held.{pinned_page}
-use Rattle.iris_blocks.specs.Paged.{Paged, PageUpdates, held_page, ArePagesSound, IsBlock}
+use Rattle.iris_blocks.specs.Paged.{Paged, PageUpdates, held_page}
 use Rattle.iris_cache.specs.declared.held.Held.{Held}
 use Rattle.iris_cache.specs.Held.{pinned_node}
-use Rattle.iris_cache.specs.Resident.{Resident, Updates, IsSoundCache, held_node, map_if}
+use Rattle.iris_cache.specs.Resident.{Resident, Updates, held_node, map_if}
 use Rattle.iris_cache.proofs.Drafts.{more-key}
 use Rattle.iris_desk.specs.AtDesk.{DeskState, keeps_name}
 use Rattle.iris_desk.specs.AtDesks.{DesksState, AreDesksSound, desk_at, keeps_for}

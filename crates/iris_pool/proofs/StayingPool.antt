@@ -1,5 +1,5 @@
 -- A pool stays one where it gets more empty places, and where its nodes keep what is out for them.
-use Rattle.std.proofs.Common.{◌≡◌, ◌⊎◌, inl, inr, ◌||◌, ◌&&◌, ◌+◌, ◌≤◌, ℕ, Bool, true, false, not, List, Option, Some, None, Result, Ok, Err, OnOk, refl, ap, sym, ◌∙◌, subst, is_some, true≢false}
+use Rattle.std.proofs.Common.{◌≡◌, ◌⊎◌, inl, inr, ◌||◌, ◌&&◌, ℕ, Bool, true, false, not, List, Option, Some, None, Result, Ok, Err, OnOk, refl, ap, sym, ◌∙◌, subst, is_some, true≢false}
 use Rattle.std.specs.List.{list_any}
 use Rattle.std.specs.Map.{lookup}
 use Rattle.iris_blocks.specs.declared.held.PageHeld.{PageHeld}
@@ -9,7 +9,7 @@ use Rattle.iris_cache.specs.declared.held.Held.{Held}
 use Rattle.iris_cache.specs.Drafted.{Drafted, sets}
 use Rattle.iris_cache.specs.Resident.{Resident, has_room, held_node}
 use Rattle.iris_desk.specs.AtDesk.{DeskState}
-use Rattle.iris_desk.specs.AtDesks.{DesksState, out_of}
+use Rattle.iris_desk.specs.AtDesks.{out_of}
 use Rattle.iris_desk.specs.declared.out.Doing.TheVariants.{Get}
 use Rattle.iris_desk.specs.declared.out.Out as pending
 use Rattle.iris_invariant.specs.Agrees.{Out}

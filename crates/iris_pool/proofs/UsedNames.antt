@@ -1,6 +1,6 @@
 -- Which names are in use, desk by desk, and which can leave.
-use Rattle.std.proofs.Common.{◌≡◌, ◌≢◌, ◌⊎◌, inl, inr, ◌||◌, ◌+◌, ◌<◌, ◌≤◌, ℕ, suc, Bool, true, false, not, List, [], ◌∷◌, Option, Some, None, refl, ap, sym, ◌∙◌, subst, arith, true≢false, is_some, slice_get, length, get_or}
-use Rattle.std.specs.Prelude.{◌↔◌, IsSome, IsSomeAnd, IfNone, Contains, is_none}
+use Rattle.std.proofs.Common.{◌≡◌, inl, inr, ◌||◌, ◌+◌, ◌<◌, ◌≤◌, ℕ, suc, Bool, true, false, not, List, [], ◌∷◌, Option, Some, None, refl, ap, sym, ◌∙◌, subst, arith, true≢false, is_some, slice_get, length, get_or}
+use Rattle.std.specs.Prelude.{◌↔◌, IsSomeAnd, IfNone, Contains, is_none}
 use Rattle.std.specs.List.{list_any}
 use Rattle.std.specs.Option.{option_and_then}
 use Rattle.std.proofs.lemmas.Map.Entries.{lookup_from_place, place_from_lookup}
@@ -8,17 +8,15 @@ use Rattle.std.proofs.lemmas.Option.{slice_get_within, slice_get_read}
 use Rattle.std.proofs.lemmas.Bool.{cases_lt}
 use Rattle.iris_blocks.specs.declared.held.PageHeld.{PageHeld}
 use Rattle.iris_blocks.specs.Held.{page_stay_of}
-use Rattle.iris_blocks.specs.Paged.{Paged, ArePagesSound, held_page}
+use Rattle.iris_blocks.specs.Paged.{ArePagesSound, held_page}
 use Rattle.iris_cache.specs.declared.held.Held.{Held}
-use Rattle.iris_cache.specs.declared.held.Stay.{Stay}
 use Rattle.iris_cache.specs.Held.{stay_of}
-use Rattle.iris_cache.specs.Holders.{IsHolder}
-use Rattle.iris_cache.specs.Idle.{CanGo, is_free}
+use Rattle.iris_cache.specs.Idle.{is_free}
 use Rattle.iris_cache.specs.Pictures.{Holds}
-use Rattle.iris_cache.specs.Resident.{IsSoundCache, held_node}
+use Rattle.iris_cache.specs.Resident.{held_node}
 use Rattle.iris_cache.proofs.IdleNodes.{free-goes, goes-free}
 use Rattle.iris_desk.specs.AtDesk.{DeskState}
-use Rattle.iris_desk.specs.AtDesks.{DesksState, AreDesksSound, desk_at, out_for, out_of}
+use Rattle.iris_desk.specs.AtDesks.{DesksState, AreDesksSound, desk_at, out_of}
 use Rattle.iris_desk.specs.declared.out.Doing.TheVariants.{Get}
 use Rattle.iris_desk.specs.declared.out.Out.{Out}
 use Rattle.iris_desk.specs.Outs.{out_in}

@@ -7,13 +7,18 @@ use Rattle.iris_cache.specs.Held.{points, kid_less, kid_more, newcomer_node}
 use Rattle.iris_cache.specs.Laws.{AreAlike}
 use Rattle.iris_cache.specs.Resident.{held_node, map_if, resident_parent}
 use Rattle.iris_desk.specs.AtDesk.{DeskState}
-use Rattle.iris_desk.specs.AtDesks.{DesksState, desk_at, out_for}
+use Rattle.iris_desk.specs.AtDesks.{DesksState, asked_by, desk_at, out_for}
 use Rattle.iris_desk.specs.declared.out.Doing.{Doing}
-use Rattle.iris_invariant.specs.Agrees.{Out, View}
+use Rattle.iris_invariant.specs.Agrees.{Getting, Out, View}
+use Rattle.iris_invariant.specs.Beginnings.{begun_out}
+use Rattle.iris_invariant.specs.Events.{Asked, Began}
 use Rattle.iris_name.specs.declared.name.Name.{Name}
+use Rattle.iris_name.specs.declared.note.Expect.{Expect}
+use Rattle.iris_name.specs.declared.request.Request.{Request}
 use Rattle.iris_name.specs.Names.{same_name}
 use Rattle.iris_node.specs.declared.node.Node.{Node}
 use Rattle.iris_pool.specs.Pool.{PoolState}
+use Rattle.iris_pool.specs.View.{pool_view}
 
 -- nothing is out for a caller
 abbrev pub IsIdle : DesksState → ℕ → Type 0
@@ -70,3 +75,12 @@ pub record Entered (who : ℕ) (v v' : View) : Type 0 where
   pub callers : (w : ℕ) (n : Name) → v.kept w n ≡ true → w ≤ 16
   pub unpinned : (n : Name) → v.kept who n ≡ true → v'.pinned who n ≡ false
   pub pinned : (w : ℕ) (n : Name) → w ≤ 16 → w ≢ who → v'.pinned w n ≡ v.pinned w n
+
+-- A caller asks this, and then the get begins that it needs: there is a pool between the two.
+pub record AskedFor (who : ℕ) (r : Request) (n : Name) (since : ℕ) (expect : Expect) (p q : PoolState) : Type 0 where
+  pub middle : PoolState
+  pub nodes : middle.nodes ≡ p.nodes
+  pub pages : middle.pages ≡ p.pages
+  pub request : asked_by middle.desks who ≡ Some r
+  pub asked : (key : List ℕ) → Asked who (pool_view key p) (pool_view key middle)
+  pub began : (key : List ℕ) → Began n (begun_out who since (Some r) (Getting expect) false) (pool_view key middle) (pool_view key q)

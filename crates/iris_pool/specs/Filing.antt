@@ -11,10 +11,12 @@ use Rattle.iris_cache.specs.Resident.{Resident, held_node, map_if}
 use Rattle.iris_desk.specs.AtDesk.{DeskState}
 use Rattle.iris_desk.specs.AtDesks.{DesksState, desk_at, asked_by, keeps_for, out_of, is_doomed}
 use Rattle.iris_desk.specs.declared.out.Out.{Out}
+use Rattle.iris_desk.specs.Laws.{AsksBy, BeginsFor}
 use Rattle.iris_desk.specs.Outs.{touched_out}
 use Rattle.iris_invariant.specs.Cells.{has_pin}
 use Rattle.iris_name.specs.declared.name.Name.{Name}
 use Rattle.iris_name.specs.declared.name.Name.TheVariants.{Entry, Part, Block}
+use Rattle.iris_name.specs.declared.request.Request.{Request}
 use Rattle.iris_name.specs.Names.{same_name}
 
 -- whether a name is doomed that was held or not, and is held now or not: one that goes is, one that comes isn't any more
@@ -124,3 +126,10 @@ pub record PinsKept (keeps : ℕ → Name → Bool) (c e : Resident) (b f : Page
   pub pages : (q : Name) → GetsPagePins (λ w. keeps w q) (held_page b q) (held_page f q)
   pub room : e.room ≡ c.room
   pub page_room : f.room ≡ b.room
+
+-- a caller asks this, and then something begins for it: there are desks between the two
+pub record AsksAndBegins (who : ℕ) (r : Request) (o : Out) (old new : DesksState) : Type 0 where
+  pub middle : DesksState
+  pub doomed : middle.doomed ≡ old.doomed
+  pub asks : AsksBy who r old middle
+  pub begins : BeginsFor who o middle new

@@ -1,5 +1,5 @@
 -- What can leave the pool.
-use Rattle.std.specs.Prelude.{◌≡◌, ◌⊎◌, ℕ, List, None, Some, IsSome, IsSomeAnd, Contains}
+use Rattle.std.specs.Prelude.{◌≡◌, ◌⊎◌, ℕ, List, None, IsSome, IsSomeAnd, Contains}
 use Rattle.iris_blocks.specs.declared.held.PageHeld.{PageHeld}
 use Rattle.iris_blocks.specs.Held.{page_stay_of}
 use Rattle.iris_blocks.specs.Paged.{held_page}

@@ -1,5 +1,5 @@
 -- What drafts make of the pool.
-use Rattle.std.specs.Prelude.{◌≡◌, ◌⊎◌, ◌+◌, ◌≤◌, ℕ, Bool, true, List, length, Option, Some, None, IsSome}
+use Rattle.std.specs.Prelude.{◌≡◌, ◌⊎◌, ◌+◌, ◌≤◌, ℕ, true, List, length, Option, Some, None, IsSome}
 use Rattle.std.specs.Option.{option_map}
 use Rattle.iris_blocks.specs.declared.held.PageHeld.{PageHeld}
 use Rattle.iris_blocks.specs.Changes.{PageDrafted, change_of, landed_page, sets_page}

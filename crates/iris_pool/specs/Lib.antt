@@ -6,3 +6,4 @@ pub mod Landing
 pub mod Filing
 pub mod Going
 pub mod Opening
+pub mod Counts

@@ -1,18 +1,17 @@
-//! Gets: they begin, they are given up, and what they bring is kept.
+//! Gets: a request is asked with the get that it needs, a get is given up, and what it brings is kept.
 
 ghost use Rattle.std.specs.Prelude.{◌≡◌, ◌≤◌, ℕ, List, [], Some, None, IsSome, OnOk, OnErr, false, true};
 ghost use Rattle.iris_blocks.specs.Held.{pinned_page};
 ghost use Rattle.iris_blocks.specs.Paged.{PageUpdates, has_page_room, held_page};
 ghost use Rattle.iris_cache.specs.Held.{pinned_node};
 ghost use Rattle.iris_cache.specs.Resident.{Updates, has_room, held_node};
-ghost use Rattle.iris_desk.specs.AtDesks.{asked_by, out_for, out_of};
-ghost use Rattle.iris_invariant.specs.Agrees.{Getting, Out as SeenOut};
-ghost use Rattle.iris_invariant.specs.Beginnings.{begun_out};
-ghost use Rattle.iris_invariant.specs.Events.{Began, Brought, Withdrawn};
+ghost use Rattle.iris_desk.specs.AtDesks.{out_for, out_of};
+ghost use Rattle.iris_invariant.specs.Agrees.{Out as SeenOut};
+ghost use Rattle.iris_invariant.specs.Events.{Brought, Withdrawn};
 ghost use Rattle.iris_name.specs.declared.name.Name.{Name as SpecName};
 ghost use Rattle.iris_name.specs.Names.{same_name};
 ghost use Rattle.iris_node.specs.Nodes.{name_of};
-ghost use Rattle.iris_pool.specs.Changes.{HoldsAlike, IsDoing, NodeComes, PageComes};
+ghost use Rattle.iris_pool.specs.Changes.{AskedFor, HoldsAlike, IsDoing, IsIdle, NodeComes, PageComes};
 ghost use Rattle.iris_pool.specs.Parts.{IsComeNode, IsComePage};
 ghost use Rattle.iris_pool.specs.Pool.{IsAbsentIn};
 ghost use Rattle.iris_pool.specs.View.{out_seen, pool_view};
@@ -23,24 +22,26 @@ use crate::seats;
 use iris_blocks::Blocks;
 use iris_cache::Cache;
 use iris_desk::{Doing, Out};
-use iris_name::{Expect, FileId, Name, NoMemory, Page};
+use iris_name::{Expect, FileId, Name, NoMemory, Page, Request};
 use iris_node::Node;
 
 impl Pool {
-    /// A get of an absent name begins for a caller, with an empty place for what it brings.
-    pub fn begin_get(
+    /// Keeps the request of a caller for whom nothing is out, in place of an older one, and begins the get of an absent name that it
+    /// needs, with an empty place for what it brings: both, or neither.
+    pub fn ask_for(
         &mut self,
         who: u32,
+        request: Request,
         name: &Name,
         since: u64,
         expect: Expect,
     ) -> Result<(), NoMemory>
         requires caller { who ≤ 16 }
+        requires idle { IsIdle self.old.desks who }
         requires free { out_of self.old.desks name.now ≡ None }
         requires absent { IsAbsentIn self.old name.now }
-        ensures began { OnOk result ((key : List ℕ) → Began name.now (begun_out who since
-            (asked_by self.old.desks who) (Getting expect) false)
-            (pool_view key self.old) (pool_view key self.new)) }
+        ensures began { OnOk result
+            (AskedFor who request name.now since expect self.old self.new) }
         ensures nodes { self.new.nodes.nodes ≡ self.old.nodes.nodes }
         ensures pages { self.new.pages.pages ≡ self.old.pages.pages }
         ensures err { OnErr result (self.new.desks ≡ self.old.desks) }
@@ -55,7 +56,7 @@ impl Pool {
             record: None,
             touched: false,
         };
-        match seats::begin(&mut self.desks, who, out) {
+        match seats::ask_for(&mut self.desks, who, request, out) {
             Ok(()) => Ok(()),
             Err(NoMemory) => {
                 give_place_up(&mut self.cache, &mut self.blocks, name);

@@ -4,6 +4,7 @@
 pub mod asking;
 mod by_name;
 pub mod chores;
+pub mod counts;
 pub mod gets;
 pub mod going;
 pub mod landing;
@@ -13,5 +14,5 @@ pub mod pool;
 mod seats;
 pub mod settling;
 
-pub use laws::cells_land;
+pub use laws::{cells_land, marks_are_counted};
 pub use pool::Pool;

@@ -6,6 +6,7 @@ ghost use Rattle.iris_desk.specs.Laws.{AsksBy, BeginsFor, EndsFor, EntersBy};
 ghost use Rattle.iris_desk.specs.Outs.{FitsDoing};
 ghost use Rattle.iris_name.specs.declared.name.Name.{Name as SpecName};
 ghost use Rattle.iris_name.specs.Names.{same_name};
+ghost use Rattle.iris_pool.specs.Filing.{AsksAndBegins};
 
 use iris_desk::{Desks, Out};
 use iris_name::{Name, NoMemory, Request};
@@ -44,6 +45,27 @@ pub(crate) fn begin(desks: &mut Desks, who: u32, out: Out) -> Result<(), NoMemor
 {
     desks.sound();
     desks.begin(who, out)
+}
+
+// A caller asks this, in place of what it asked, and something begins for it: both, or neither.
+pub(crate) fn ask_for(
+    desks: &mut Desks,
+    who: u32,
+    request: Request,
+    out: Out,
+) -> Result<(), NoMemory>
+    requires caller { who ≤ 16 }
+    requires free { out_of desks.old out.name ≡ None }
+    requires fits { FitsDoing out }
+    requires untouched { out.touched ≡ false }
+    ensures both { OnOk result (AsksAndBegins who request out desks.old desks.new) }
+    ensures doomed { desks.new.doomed ≡ desks.old.doomed }
+    ensures err { OnErr result (desks.new ≡ desks.old) }
+{
+    desks.sound();
+    begin(desks, who, out)?;
+    ask(desks, who, request);
+    Ok(())
 }
 
 // What is out for a name at a caller's desk ends; with `keep` the name is kept there.

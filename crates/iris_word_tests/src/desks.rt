@@ -57,21 +57,32 @@ fn begins_and_keeps_many(rt: HostRuntime) -> Result<(), Fail> {
     Ok(())
 }
 
+// Each even name is an entry, each odd one a block.
+fn named(id: u64) -> Name {
+    if id % 2 == 0 {
+        return entry(id);
+    }
+    Name::Block {
+        file: FileId(id),
+        place: 7,
+    }
+}
+
 fn doom_many(alloc: Global) -> Result<bool, Fail> {
     let mut desks = Desks::new(alloc)?;
     for id in 0..MANY {
-        desks.doom(&entry(id))?;
+        desks.doom(&named(id))?;
     }
     for id in 0..MANY {
-        if id % 2 == 0 {
-            desks.undoom(&entry(id));
+        if id % 4 < 2 {
+            desks.undoom(&named(id));
         }
     }
-    let half = desks.doomed().len() == 1500;
-    Ok(half && desks.is_doomed(&entry(2999)) && !desks.is_doomed(&entry(2998)))
+    let half = desks.doomed().len() == 1500 && desks.doomed_blocks() == 750;
+    Ok(half && desks.is_doomed(&named(2999)) && !desks.is_doomed(&named(2997)))
 }
 
-// Doomed names that are lost, or that stay.
+// Doomed names that are lost, or that stay, and blocks that are miscounted.
 #[test]
 fn dooms_many(rt: HostRuntime) -> Result<(), Fail> {
     assert!(rt; doom_many(rt.alloc())?);

@@ -1,5 +1,4 @@
-use Rattle.std.proofs.Common.{◌≡◌, Bool, false, cond, sym, ap, subst, ◌∙◌}
-use Rattle.iris_desk.specs.AtDesks.{DesksState}
+use Rattle.std.proofs.Common.{◌≡◌, false, cond, sym, subst}
 use Rattle.iris_desk.proofs.LookingUp.{touch_looks}
 use Rattle.iris_name.specs.Names.{same_name}
 use Rattle.iris_pool.specs.Filing.{FilesNames, doomed_by}

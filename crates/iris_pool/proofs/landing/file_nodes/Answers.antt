@@ -1,10 +1,9 @@
-use Rattle.std.proofs.Common.{◌≡◌, Bool, Some, ap, arith, is_some, sym, ◌∙◌, slice_get}
+use Rattle.std.proofs.Common.{Bool, ap, arith, is_some, sym, ◌∙◌, slice_get}
 use Rattle.std.specs.Option.{option_copied}
 use Rattle.iris_cache.specs.Drafted.{drafted}
 use Rattle.iris_cache.specs.Resident.{held_node}
 use Rattle.iris_cache.proofs.Drafts.{place-held}
 use Rattle.iris_name.specs.declared.name.Name.{Name}
-use Rattle.iris_node.specs.declared.node.Node.{Node}
 use Rattle.iris_pool.specs.Filing.{is_held_after}
 use Rattle.iris_pool.proofs.FiledNames.{drafted_entry, files_to_all, files_to_more}
 use Rattle.iris_pool.proofs.Lookups.{copied_some, found_is}

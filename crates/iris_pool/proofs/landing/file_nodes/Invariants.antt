@@ -1,4 +1,4 @@
-use Rattle.std.proofs.Common.{◌≤◌, ◌+◌, is_some, length}
+use Rattle.std.proofs.Common.{◌≤◌, ◌+◌, is_some}
 use Rattle.iris_cache.specs.Drafted.{drafted}
 use Rattle.iris_cache.specs.Resident.{held_node}
 use Rattle.iris_pool.specs.Filing.{is_held_after}

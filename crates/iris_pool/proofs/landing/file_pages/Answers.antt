@@ -1,4 +1,4 @@
-use Rattle.std.proofs.Common.{◌≡◌, Bool, Some, ap, arith, is_some, sym, ◌∙◌}
+use Rattle.std.proofs.Common.{Bool, ap, arith, is_some, sym, ◌∙◌}
 use Rattle.iris_blocks.specs.Changes.{change_of, from_to, lent}
 use Rattle.iris_blocks.specs.Paged.{held_page}
 use Rattle.std.specs.Option.{option_copied}

@@ -1,4 +1,4 @@
-use Rattle.std.proofs.Common.{◌≤◌, ◌+◌, is_some, length}
+use Rattle.std.proofs.Common.{◌≤◌, ◌+◌, is_some}
 use Rattle.iris_blocks.specs.Changes.{change_of}
 use Rattle.iris_blocks.specs.Paged.{held_page}
 use Rattle.iris_pool.specs.Filing.{is_page_held_after}

@@ -1,4 +1,4 @@
-use Rattle.std.proofs.Common.{sym, ap, subst, ◌∙◌, is_some}
+use Rattle.std.proofs.Common.{sym, subst, ◌∙◌}
 use Rattle.iris_blocks.specs.Paged.{held_page}
 use Rattle.iris_cache.specs.Resident.{held_node}
 use Rattle.iris_name.specs.declared.name.Name.TheVariants.{Block}

@@ -1,6 +1,5 @@
-use Rattle.std.proofs.Common.{◌≡◌, Some, arith, ap, sym, subst, ◌∙◌, length, get_or, List, slice_get, map}
+use Rattle.std.proofs.Common.{◌≡◌, Some, arith, ap, sym, ◌∙◌, length, get_or, List, slice_get, map}
 use Rattle.std.proofs.lemmas.List.{length-map}
-use Rattle.iris_desk.specs.AtDesks.{desk_at}
 use Rattle.iris_desk.specs.declared.out.Out.{Out}
 use Rattle.iris_name.specs.declared.name.Name.{Name}
 use Rattle.iris_pool.specs.Filing.{is_touched_there, names_at, names_on_desk}

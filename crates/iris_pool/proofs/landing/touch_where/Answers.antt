@@ -1,4 +1,4 @@
-use Rattle.std.proofs.Common.{sym, subst, Bool, true, ◌&&◌}
+use Rattle.std.proofs.Common.{sym, subst, Bool, ◌&&◌}
 use Rattle.iris_desk.proofs.LookingUp.{touch_looks}
 use Rattle.iris_name.specs.Names.{same_name}
 use Rattle.iris_pool.specs.Filing.{FilesNames}

@@ -16,7 +16,7 @@ invariant_of-self-2 c =
     let d : DesksState = record { desks = c.self.inside.desks.items; doomed = c.self.inside.doomed.keys; room = c.self.inside.room } in
     let free : out_of d c.args.out.name ≡ None = ap (λ (v : DesksState). out_of v c.args.out.name) c.self.view_is ∙ c.requires.free in
     let is = c.in_ok-begin.ensures in
-    record { sound = written_sound d d c.args.who c.index_mut-desk.result.now c.begin.new.self (begun_desk c.args.out) c.self.invariant.sound c.requires.caller c.index_mut-desk.ensures.value is.begun is.sound (begun_was d c.args.out c.self.invariant.sound.apart free); room = c.self.invariant.room }
+    record { sound = written_sound d d c.args.who c.index_mut-desk.result.now c.begin.new.self (begun_desk c.args.out) c.self.invariant.sound c.requires.caller c.index_mut-desk.ensures.value is.begun is.sound (begun_was d c.args.out c.self.invariant.sound.apart free); room = c.self.invariant.room; counted = c.self.invariant.counted }
 
 pub returns-clause-desks : goal.returns-clause-desks
 returns-clause-desks c =

@@ -7,7 +7,7 @@ pub invariant_of-self : goal.invariant_of-self
 invariant_of-self c =
     let d : DesksState = record { desks = c.self.inside.desks.items; doomed = c.self.inside.doomed.keys; room = c.self.inside.room } in
     let is = c.end.ensures in
-    record { sound = ended_sound_at d d c.args.who c.index_mut-desk.result.now c.end.new.self c.args.keep c.args.name.now c.self.invariant.sound c.requires c.index_mut-desk.ensures.value c.end.result is.ended is.none is.sound; room = c.self.invariant.room }
+    record { sound = ended_sound_at d d c.args.who c.index_mut-desk.result.now c.end.new.self c.args.keep c.args.name.now c.self.invariant.sound c.requires c.index_mut-desk.ensures.value c.end.result is.ended is.none is.sound; room = c.self.invariant.room; counted = c.self.invariant.counted }
 
 pub returns-clause-answer : goal.returns-clause-answer
 returns-clause-answer c =

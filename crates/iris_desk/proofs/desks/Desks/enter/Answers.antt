@@ -7,7 +7,7 @@ use Rattle.iris_desk.proofs.desks.Desks.enter.Goals as goal
 pub invariant_of-self : goal.invariant_of-self
 invariant_of-self c =
     let d : DesksState = record { desks = c.self.inside.desks.items; doomed = c.self.inside.doomed.keys; room = c.self.inside.room } in
-    record { sound = written_sound d d c.args.who c.index_mut-desk.result.now c.enter.new.self entered_desk c.self.invariant.sound c.requires c.index_mut-desk.ensures.value c.enter.ensures.entered c.enter.ensures.sound (entered_was d); room = c.self.invariant.room }
+    record { sound = written_sound d d c.args.who c.index_mut-desk.result.now c.enter.new.self entered_desk c.self.invariant.sound c.requires c.index_mut-desk.ensures.value c.enter.ensures.entered c.enter.ensures.sound (entered_was d); room = c.self.invariant.room; counted = c.self.invariant.counted }
 
 pub returns-clause-answer : goal.returns-clause-answer
 returns-clause-answer c =

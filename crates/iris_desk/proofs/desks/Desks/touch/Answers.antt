@@ -21,7 +21,7 @@ each c =
 pub invariant_of-self : goal.invariant_of-self
 invariant_of-self c =
     let d : DesksState = record { desks = c.self.inside.desks.items; doomed = c.self.inside.doomed.keys; room = c.self.inside.room } in
-    record { sound = subst (λ (l : List DeskState). AreDesksSound (record d { desks = l })) (sym (each c)) (touched_sound c.args.name.now d c.self.invariant.sound); room = c.self.invariant.room }
+    record { sound = subst (λ (l : List DeskState). AreDesksSound (record d { desks = l })) (sym (each c)) (touched_sound c.args.name.now d c.self.invariant.sound); room = c.self.invariant.room; counted = c.self.invariant.counted }
 
 pub returns-clause-desks : goal.returns-clause-desks
 returns-clause-desks c = λ w.

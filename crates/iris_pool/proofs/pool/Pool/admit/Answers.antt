@@ -1,4 +1,4 @@
-use Rattle.std.proofs.Common.{◌≡◌, Bool, false, not, cond, is_some, subst, ap, ◌∙◌}
+use Rattle.std.proofs.Common.{◌≡◌, not, cond, is_some, subst, ap, ◌∙◌}
 use Rattle.iris_cache.specs.Held.{dirtied_node, unpinned_node}
 use Rattle.iris_cache.specs.Resident.{Updates, has_room, held_node}
 use Rattle.iris_desk.specs.AtDesks.{out_of}

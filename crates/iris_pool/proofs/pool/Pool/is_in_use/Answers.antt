@@ -1,4 +1,4 @@
-use Rattle.std.proofs.Common.{◌≡◌, refl, sym, ◌∙◌, ap, subst, true≢false, arith, None}
+use Rattle.std.proofs.Common.{◌≡◌, refl, sym, subst, true≢false, arith, None}
 use Rattle.iris_desk.specs.AtDesks.{AreDesksSound, out_of}
 use Rattle.iris_pool.specs.Going.{IsParentOfAny, IsUsedAs}
 use Rattle.iris_pool.specs.Pool.{PoolState}

@@ -1,5 +1,4 @@
-use Rattle.std.proofs.Common.{◌≡◌, ◌≤◌, ◌+◌, arith, length, refl}
-use Rattle.iris_pool.specs.Landing.{IsReadyFor}
+use Rattle.std.proofs.Common.{◌≡◌, ◌+◌, arith, length, refl}
 use Rattle.iris_pool.specs.Pool.{PoolState}
 use Rattle.iris_cache.specs.Resident.{has_room}
 use Rattle.iris_blocks.specs.Paged.{has_page_room}
