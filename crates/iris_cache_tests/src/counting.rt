@@ -1,5 +1,7 @@
 //! How many nodes are dirty, beside a pass over all that is resident.
 
+ghost use Rattle.std.specs.Prelude.{◌≤◌};
+
 use iris_cache::{Cache, Draft};
 use iris_name::{FileId, Name};
 use iris_node::{Node, PartNode, Side};
@@ -12,8 +14,10 @@ use std::test::Fail;
 // How many files the edits take turns at.
 const FILES: u32 = 40;
 
-fn any_file(dice: &mut Dice) -> FileId {
-    FileId(u64::from(dice.roll(FILES)))
+fn any_file(dice: &mut Dice) -> FileId
+    ensures { 2 ≤ result.0 }
+{
+    FileId(2 + u64::from(dice.roll(FILES)))
 }
 
 // The part of the first two places of a file.
@@ -35,7 +39,9 @@ fn any_parent(dice: &mut Dice) -> Option<Name> {
 }
 
 // The part's node, with one of two versions in its second place.
-fn part_node(file: FileId, later: bool) -> Node {
+fn part_node(file: FileId, later: bool) -> Node
+    requires { 2 ≤ file.0 }
+{
     if later {
         return Node::Part(PartNode {
             file,
